@@ -2,7 +2,8 @@
    says how, in words by threes: a call, the number of it, counted from 1 on, and what becomes of it. Calls of journals are `read`, `append`, `sync`
    and `cut`, and `folder` is the sync of another file: each may `fail`, or `wait` until the pipe GATE was opened and closed. So may a `tell`, a write
    to the standard output, of which `tell 0 short` has each take one byte. A `reply` accepts a Write, and may come `ahead`, as if of the Write
-   behind that, or `bad`, as no frame. A `connect` may `fail`, as if nobody listened there, and so may a `start`, of a thread. */
+   behind that, or `bad`, as no frame. A `connect` may `fail`, as if nobody listened there, and so may a `start`, of a thread. Where SLOW is given, each
+   sync of a journal takes so many microseconds more. */
 #define _GNU_SOURCE
 #include <dlfcn.h>
 #include <errno.h>
@@ -27,6 +28,7 @@
 
 static int calls = -1;
 static const char *meddle = "", *gate = "";
+static long slow;
 static char is_journal[FILES];
 static atomic_int reads, appends, syncs, cuts, folders, replies, tells, connects, starts;
 
@@ -40,6 +42,8 @@ __attribute__((constructor)) static void start(void) {
         meddle = getenv("MEDDLE");
     if (getenv("GATE"))
         gate = getenv("GATE");
+    if (getenv("SLOW"))
+        slow = atol(getenv("SLOW"));
 }
 
 __attribute__((format(printf, 1, 2))) static void note(const char *format, ...) {
@@ -131,6 +135,8 @@ int fsync(int file) {
     int failed = in_journal(file) ? fails("sync", &syncs) : fails("folder", &folders);
     if (failed || REAL(fsync)(file) != 0)
         return -1;
+    if (slow > 0 && in_journal(file))
+        usleep((useconds_t)slow);
     note("sync %d\n", file);
     return 0;
 }

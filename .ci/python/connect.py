@@ -19,7 +19,9 @@ import time
 import alone
 import kept_bits
 from checks import Checks
+from greeting import Answering
 from living import SECONDS, Server, slowness
+from meeting import HELLO, is_greeting, reply_to_greeting
 
 sys.path.insert(0, os.path.join("..", "clients", "python"))
 import bayou  # noqa: E402
@@ -59,7 +61,7 @@ class Listening:
 
 
 class DropReply(Listening):
-    """A way to a server on which the reply to the n-th request is dropped, and the connection with it."""
+    """A way to a server on which the reply to the n-th request, greetings not counted, is dropped, and the connection with it."""
 
     def __init__(self, port, dropped):
         self.port, self.dropped = port, dropped
@@ -78,8 +80,9 @@ class DropReply(Listening):
                         break
                     far.sendall(request)
                     reply = far.recv(65536)
-                    self.dropped -= 1
-                    if self.dropped == 0 or not reply:
+                    is_counted = not is_greeting(request)
+                    self.dropped -= is_counted
+                    if is_counted and self.dropped == 0 or not reply:
                         break
                     near.sendall(reply)
 
@@ -95,7 +98,10 @@ class Dripping(Listening):
         near, _ = self.listener.accept()
         with near:
             try:
-                near.recv(65536)
+                request = near.recv(65536)
+                while is_greeting(request):
+                    near.sendall(reply_to_greeting(request))
+                    request = near.recv(65536)
                 for byte in b"\x00\x42\x11\x00" + 64 * b"\x00":
                     near.sendall(bytes([byte]))
                     time.sleep(self.rest)
@@ -131,6 +137,8 @@ class Holding(Listening):
                 near.sendall(item)
                 self.sent += 1
             near.sendall(b"\x00\x05\x16" + self.sent.to_bytes(4, "big"))
+        elif is_greeting(request):
+            near.sendall(reply_to_greeting(request))
         elif request:
             near.sendall(b"\x00\x42\x11\x00" + 64 * b"\x00")
         return request
@@ -233,7 +241,7 @@ class Tries:
         self.row("a claim of what is taken", at, ["claim a b jo"],
                  ["0 wrote 0:9 clock 9 deps 8", '0 read a text "lee" at 9', '0 read b text "kim" at 9', "0 did nothing"], 1)
         self.row("a list", at, ["list", "servers", "session", "at 0"],
-                 ['a text "lee"', 'b text "kim"', "m num 5", 'room text "kim"', "list 0 keys 4", "server 0 at 9",
+                 ['a text "lee"', 'b text "kim"', "m num 5", 'room text "kim"', "list 0 keys 4", "server 0 at 9 holds 9 of 65536",
                   "session 0 asks none", "session 0 read 0 wrote 0"])
         self.row("a script's lines", at, ['["session",3,["ryw"]]', '["write",3,0,{"update":[["put","x","a b"]]}]', '["read",3,0,"x"]', '["reopen",0]',
                                           '["again",3]', "again"],
@@ -283,7 +291,7 @@ class Tries:
                 self.row("no value: " + line, at, [line], [], 2, ["bayou: line 1: " + expected])
         for spelled in ["1.5", "007", "+5", "-0", "9223372036854775808", '"5"']:
             self.row("no number: " + spelled, at, ["add n " + spelled], [], 2, ["bayou: line 1: " + NUMBER])
-        self.row("nothing of that was done", at, ["servers"], ["server 0 at %d" % count])
+        self.row("nothing of that was done", at, ["servers"], ["server 0 at %d holds %d of 65536" % (count, count)])
         self.stop_all()
 
     def claims(self):
@@ -303,7 +311,7 @@ class Tries:
         self.row("with a session", both, ["claim x y kim"], ["0 wrote 0:5 clock 5 deps 4,0", '0 read x text "kim" at 5,0'],
                  words=["--state", state, "--session", "all"])
         self.row("at a server that is behind nothing is claimed", both, ["at 1", "claim x y kim"], ['0 read x text "kim" at 5,0'], words=["--state", state])
-        self.row("alone there it is refused", both[1:], ["claim x y kim", "servers"], ["0 refused behind at 0,0", "server 1 at 0,0"], 1, words=["--state", state])
+        self.row("alone there it is refused", both[1:], ["claim x y kim", "servers"], ["0 refused behind at 0,0", "server 1 at 0,0 holds 0 of 65536"], 1, words=["--state", state])
         first.kill()
         self.row("no server", at, ["claim a b kim"], ["0 refused away"], 1)
         self.stop_all()
@@ -378,7 +386,7 @@ class Tries:
                 process.stdout.read()
                 process.wait(SECONDS)
             begun = time.monotonic()
-            self.row("a Write is in doubt", both, ["put a 1"], ["0 lost"], 1, words=["--timeout", "1"])
+            self.row("a Write isn't sent to one that doesn't greet", both, ["put a 1"], ["0 wrote 1:3 clock 3 deps 0,2"], words=["--timeout", "1"])
             self.that("so long", 1 <= time.monotonic() - begun <= 1 + BUSY)
             with bayou.Session([address for _, address in both], timeout=1.0) as session:
                 begun = time.monotonic()
@@ -416,8 +424,8 @@ class Tries:
         self.row("a list of a server that never ends", [(0, endless.address)], ["list"], ["list lost"], 1)
         self.that("it is left behind as many Writes as a server holds: %d Items" % endless.sent, 65536 <= endless.sent <= 65537 + slack)
         self.that("and that takes some seconds", time.monotonic() - begun < 20)
-        self.row("the next one is listed", [(0, endless.address), (1, server.address())], ["list"],
-                 ['%s text "%s"' % (key, text) for _, key, text in ops] + ["list 1 keys 8"])
+        self.row("the next one is listed", [(1, endless.address), (0, server.address())], ["list"],
+                 ['%s text "%s"' % (key, text) for _, key, text in ops] + ["list 0 keys 8"])
         book = os.path.join(self.room, "endless.book")
         self.row("what it holds isn't in the book", [(0, endless.address)], ["dump"], ["dump 0 away"], 1, words=["--book", book])
         self.row("one Write", [(0, Holding(lambda: [item]).address)], ["list"], ['%s text "%s"' % (key, text) for _, key, text in ops] + ["list 0 keys 8"])
@@ -449,14 +457,14 @@ class Tries:
         first, second = self.start(folder, 0, 2), self.start(folder, 1, 2)
         both = [(0, first.address()), (1, second.address())]
         self.row("the server at hand is asked first", both, ["put a 1", "at 1", "put b 2", "servers"],
-                 ["0 wrote 0:1 clock 1 deps 0,0", "0 wrote 1:1 clock 1 deps 0,0", "server 0 at 1,0", "server 1 at 0,1"])
+                 ["0 wrote 0:1 clock 1 deps 0,0", "0 wrote 1:1 clock 1 deps 0,0", "server 0 at 1,0 holds 1 of 65536", "server 1 at 0,1 holds 1 of 65536"])
         self.row("one that is behind is passed by", both, ["put c 3", "at 1", "get c"],
                  ["0 wrote 0:2 clock 2 deps 1,0", "0 read c num 3 at 2,0"], words=["--session", "ryw"])
         self.row("a script's line goes nowhere else", both, ["put c 3", '["read",0,1,"c"]'],
                  ["0 wrote 0:3 clock 3 deps 2,0", "0 refused behind at 0,1"], 1, words=["--session", "ryw"])
         first.kill()
         self.row("one that is away is passed by", both, ["get b", "servers", "list"],
-                 ["0 read b num 2 at 0,1", "server 0 away", "server 1 at 0,1", "b num 2", "list 1 keys 1"], 1)
+                 ["0 read b num 2 at 0,1", "server 0 away", "server 1 at 0,1 holds 1 of 65536", "b num 2", "list 1 keys 1"], 1)
         second.kill()
         self.row("all away", both, ["get b", "put b 1", "servers", '["read",0,0,"b"]', '["reopen",1]', "list"],
                  ["0 refused away", "0 refused away", "server 0 away", "server 1 away", "0 refused away", "reopen refused away", "list lost"], 1)
@@ -495,8 +503,8 @@ class Tries:
             except bayou.Lost:
                 told = "lost"
             self.that("and a Write goes nowhere else", told, "lost")
-        # Its first reply tells what the server holds, the second what it sends of that.
-        way = DropReply(server.port, 2)
+        # What the server holds is told as it is greeted; the first reply is what it sends of that.
+        way = DropReply(server.port, 1)
         self.row("a list whose reply is lost goes to the next server", [(0, way.address), (1, other.address())], ["list"], ["list 1 keys 0"])
         self.stop_all()
 
@@ -767,6 +775,24 @@ class Tries:
         tags = [whole[start + 3] for start in kept_bits.entries_of(whole)[:-1]]
         self.that("the tags have these numbers", tags, numbers + [0])
 
+    def strangers(self):
+        """Another server answers than the one that is asked: that is told once, nothing is sent to it, and the next one is asked."""
+        folder = self.folder()
+        server = Server(self.program, folder, 1, servers=2, new=True)
+        server.serving()
+        line = "bayou: server 0 at %s is server 1" % server.address()
+        wrong, both = [(0, server.address())], [(0, server.address()), (1, server.address())]
+        self.row("a wrong port", wrong, ["put a 1", "put a 2", "get a"], ["0 refused away", "0 refused away", "0 refused away"], 1, [line])
+        self.row("nothing was sent there", both[1:], ["servers"], ["server 1 at 0,0 holds 0 of 65536"])
+        self.row("the next one is asked", both, ["put a 1", "get a"], ["0 wrote 1:1 clock 1 deps 0,0", "0 read a num 1 at 0,1"], 0, [line])
+        self.row("what it holds then", both, ["servers"], ["server 0 away", "server 1 at 0,1 holds 1 of 65536"], 1, [line])
+        server.end()
+        older = Answering(b"")
+        status, printed, told = self.call([(0, "127.0.0.1:%d" % older.port)], ["get a"])
+        self.that("one that knows no greetings", (status, printed, told), (1, ["0 lost"], ["bayou: server 0 at 127.0.0.1:%d is older: no greeting" % older.port]))
+        self.that("is greeted, and then asked", [came[0] for came in older.came if came is not None], [HELLO, 0x01])
+        older.end()
+
     def calendar(self):
         """The day of examples/calendar: three servers, each apart in turn, and what a person prints at each."""
         folder = self.folder()
@@ -813,7 +839,7 @@ class Tries:
         self.that("server %d is apart again" % to, again.serving() is not None)
 
 
-GROUPS = ["words", "lines", "values", "claims", "additions", "words_of_lines", "silent", "dripped", "unbelievable", "late", "turns", "lost", "asks", "lists", "guarantees_alone", "kept", "grown", "killed", "guarantees", "drawn", "calendar"]
+GROUPS = ["words", "lines", "values", "claims", "additions", "words_of_lines", "silent", "dripped", "unbelievable", "late", "turns", "lost", "asks", "lists", "guarantees_alone", "kept", "grown", "killed", "guarantees", "drawn", "strangers", "calendar"]
 
 
 def main():

@@ -1,4 +1,5 @@
 """Who holds nobody up at a server that lives, tried from outside: readers that are slow, peers that are silent, servers that start together."""
+import itertools
 import os
 import resource
 import shutil
@@ -11,7 +12,7 @@ import time
 import frames
 import late
 from living import SECONDS, Server, slowness
-from meeting import dump_of, ended, free_port, items, soon
+from meeting import dump_of, ended, free_port, is_greeting, items, reply_to_greeting, soon
 
 sys.path.insert(0, os.path.join("..", "clients", "python"))
 import bayou  # noqa: E402
@@ -40,10 +41,10 @@ def most_resident(server, seconds):
 
 
 class Bad:
-    """A peer that answers each connection in its own bad way, until it is closed."""
+    """A peer that answers each connection in its own bad way, until it is closed: once it was greeted, or to the greeting."""
 
-    def __init__(self, way):
-        self.way = way
+    def __init__(self, way, greets=True):
+        self.way, self.greets = way, greets
         self.listener = socket.create_server(("127.0.0.1", 0))
         self.port = self.listener.getsockname()[1]
         threading.Thread(target=self.serve, daemon=True).start()
@@ -60,7 +61,10 @@ class Bad:
         with stream:
             try:
                 stream.settimeout(SECONDS)
-                stream.recv(4096)
+                text = stream.recv(4096)
+                while self.greets and is_greeting(text):
+                    stream.sendall(reply_to_greeting(text))
+                    text = stream.recv(4096)
                 self.way(stream)
             except OSError:
                 pass
@@ -152,7 +156,7 @@ class Holding:
     def bad_peers_at_start(self):
         """Peers that are silent, drip, never end or lie hold a start up for five seconds at the most, all together; what they don't say is told."""
         ways = [silent, silent, dripping, dripping, endless, endless, lying]
-        bad = [Bad(way) for way in ways]
+        bad = [Bad(way, greets) for way, greets in zip(ways, itertools.cycle([True, False]))]
         begun = time.monotonic()
         server = Server(self.program, self.folder(), 0, 8, peers=[(index + 1, one.port) for index, one in enumerate(bad)], new=True)
         self.that("served beside seven bad peers", server.serving() is not None)

@@ -53,12 +53,13 @@ class Lines:
 class Server:
     """A server that lives, over the journal in the folder. Port 0 is one that the system picks."""
 
-    def __init__(self, program, folder, index, servers=3, port=0, peers=(), new=False, until=True, words=(), before=None):
+    def __init__(self, program, folder, index, servers=3, port=0, peers=(), new=False, until=True, words=(), before=None, variables=None):
         call = [program, "serve", "--id", str(index), "--servers", str(servers), "--dir", folder, "--listen", "127.0.0.1:%d" % port]
         for peer, at in peers:
             call += ["--peer", "%d=127.0.0.1:%d" % (peer, at)]
         call += ["--new"] * new + ["--until-input-ends"] * until + list(words)
-        self.process = subprocess.Popen(call, stdin=subprocess.PIPE, stdout=subprocess.PIPE, stderr=subprocess.PIPE, preexec_fn=before)
+        self.process = subprocess.Popen(call, stdin=subprocess.PIPE, stdout=subprocess.PIPE, stderr=subprocess.PIPE, preexec_fn=before,
+                                        env={**os.environ, **(variables or {})})
         self.printed, self.told = Lines(self.process.stdout), Lines(self.process.stderr)
         self.port = None
 

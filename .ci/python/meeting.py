@@ -1,4 +1,5 @@
 """What meets a server that lives: peers that aren't servers, and what is seen of a server by one request."""
+import contextlib
 import os
 import socket
 import sys
@@ -26,8 +27,25 @@ def ended(number):
     return frames.frame(frames.END, number.to_bytes(4, "big"))
 
 
+HELLO, PROOF, WELCOME, KNOWN = 0x20, 0x21, 0x30, 0x31
+
+
+def is_greeting(text):
+    """Whether what somebody sent begins with a greeting."""
+    return text[2:3] in (bytes([HELLO]), bytes([PROOF]))
+
+
+def reply_to_greeting(text, limit=frames.MAX_COUNT):
+    """What a server of an open store that holds nothing replies to this, be it whichever is asked for, of as many as are counted."""
+    if text[2] == HELLO:
+        asked, count = text[4], text[6]
+        welcome = bytes([1, asked if asked < frames.SERVERS else 0, count or 1, 0]) + bytes(16) + bytes(32)
+        return frames.frame(WELCOME, welcome)
+    return frames.frame(KNOWN, frames.vector_bytes(frames.ZERO) + limit.to_bytes(4, "big") + b"\0")
+
+
 class Fake:
-    """A peer that answers the first of what it is asked so, and closes each later connection at once."""
+    """A peer that answers the first of what it is asked so, and closes each later connection at once. It is whichever server is greeted."""
 
     def __init__(self, answer, asks=1):
         self.answer, self.asks = answer, asks
@@ -41,12 +59,21 @@ class Fake:
                 stream, _ = self.listener.accept()
             except OSError:
                 return
-            with stream:
-                if self.asks > 0:
-                    self.asks -= 1
-                    stream.settimeout(SECONDS)
-                    stream.recv(4096)
-                    stream.sendall(self.answer)
+            if self.asks > 0:
+                stream.settimeout(SECONDS)
+                self.answer_one(stream)
+            stream.close()
+
+    def answer_one(self, stream):
+        """Answers the first request, behind greetings."""
+        with contextlib.suppress(OSError):
+            text = stream.recv(4096)
+            while is_greeting(text):
+                stream.sendall(reply_to_greeting(text))
+                text = stream.recv(4096)
+            if text:
+                self.asks -= 1
+                stream.sendall(self.answer)
 
     def __enter__(self):
         return self

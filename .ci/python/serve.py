@@ -2,6 +2,7 @@
 import json
 import os
 import random
+import re
 import resource
 import shutil
 import signal
@@ -14,6 +15,7 @@ import time
 
 import frames
 from checks import Checks
+from greeting import Greeting
 from holding import Holding
 from living import SECONDS, Server, slowness
 from meeting import Fake, count_of, dump_of, ended, free_port, items, soon, struct_of
@@ -28,7 +30,7 @@ def numbered(number):
     return {"update": [["put", "k%03d" % (number % 500), number]]}
 
 
-class Tries(Holding):
+class Tries(Holding, Greeting):
     def __init__(self, program, kills, room):
         self.program, self.kills, self.room, self.checks = program, kills, room, Checks()
 
@@ -276,6 +278,8 @@ class Tries(Holding):
         self.that("three servers for one that hangs", all([server.serving() is not None for server in servers]))
         addresses = [server.address() for server in servers]
         self.that("it is reached before", servers[0].told.find("bayou: peer 1 reached pulled 0 had 0") is not None)
+        away = "bayou: peer 1 at %s away" % addresses[1]
+        before = servers[0].told.all().count(away)
         os.kill(servers[1].process.pid, signal.SIGSTOP)
         try:
             with bayou.Session([addresses[0], None, addresses[2]]) as session:
@@ -283,7 +287,7 @@ class Tries(Holding):
                 session.write({"update": [["put", "passed", 1]]}, server=0)
                 self.that("a Write passes a peer that hangs", soon(lambda: session.read("passed", 2)), 1)
                 self.that("and waits for none", time.monotonic() - begun <= 6)
-            self.that("a peer that hangs is told", servers[0].told.find("bayou: peer 1 pull fault read") is not None)
+            self.that("a peer that hangs is told", servers[0].told.find(re.escape(away), count=before + 1) is not None)
         finally:
             os.kill(servers[1].process.pid, signal.SIGCONT)
         with bayou.Session([None, addresses[1]]) as session:
@@ -618,7 +622,7 @@ def asked_again(session, stop):
     return None
 
 
-GROUPS = ["words", "guards", "clients", "repeats", "patience", "strangers", "short_connections", "crowds", "peers", "hanging", "restores", "full_disk", "dumps", "together", "bad_peers_at_start", "offers_while_starting", "descriptors", "strays", "late", "written_to_steadily", "fair", "killed"]
+GROUPS = ["words", "guards", "clients", "repeats", "patience", "strangers", "short_connections", "crowds", "peers", "hanging", "restores", "full_disk", "dumps", "together", "bad_peers_at_start", "offers_while_starting", "descriptors", "strays", "greetings", "mistaken_peers", "older_peers", "late", "written_to_steadily", "fair", "killed"]
 
 
 def main():

@@ -1,4 +1,4 @@
-"""A Redis server that syncs each put, and clients of it: its protocol, as far as it is needed here."""
+"""A Redis server that syncs each put, and a client of it: its protocol, as far as it is needed here."""
 import socket
 import subprocess
 import time
@@ -59,14 +59,3 @@ class Running:
     def __exit__(self, *fault):
         self.process.terminate()
         self.process.wait()
-
-
-def sets_at(port, which):
-    """A client that puts a key of its own again and again."""
-    link = Link(port)
-    return link.close, lambda number: link.ask("SET", f"c{which}", str(number))
-
-
-def gets_at(port, which):
-    link = Link(port)
-    return link.close, lambda _: link.ask("GET", f"c{which}")

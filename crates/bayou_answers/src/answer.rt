@@ -1,10 +1,10 @@
 use bayou_audit::Totals;
-use bayou_base::{Accepted, Key, Seen, ServerId, SessionId, Vector, Wid};
+use bayou_base::{Accepted, Key, Refusal, Seen, ServerId, SessionId, Vector, Wid};
 use bayou_judge::{BadEvidence, Surveyed, Verdict};
 use bayou_log::Listed;
 use bayou_peer::{PullStopped, Pulled};
 use bayou_script::AuditFile;
-use bayou_server::{ReopenFault, StartFault, WriteFault};
+use bayou_server::StartFault;
 
 /// What a command is answered.
 #[derive(Debug, Drop)]
@@ -26,7 +26,7 @@ pub enum Answer {
     /// a connection that memory ran out.
     Refused {
         session: SessionId,
-        refusal: WriteFault,
+        refusal: Refusal,
     },
     /// No reply reached the session.
     Lost {
@@ -78,7 +78,7 @@ pub enum Recovery {
         adopted: Option<Wid>,
     },
     /// It wasn't reopened.
-    NotReopened(ReopenFault),
+    NotReopened(Refusal),
     /// It is stopped: it isn't reopened, only started again.
     NotRunning,
     /// It was stopped, and started again on what its device has.

@@ -15,6 +15,7 @@ pub mod entry;
 pub mod key;
 pub mod limits;
 pub mod prefix;
+pub mod refusal;
 pub mod server;
 pub mod session;
 pub mod stamp;
@@ -33,6 +34,7 @@ pub use limits::{
     MAX_TURNS, MAX_WRITE_BYTES, MAX_WRITES, NET_SERVERS, OLD_SERVERS, SERVERS, SESSIONS,
 };
 pub use prefix::Prefix;
+pub use refusal::Refusal;
 pub use server::ServerId;
 pub use session::SessionId;
 pub use stamp::Stamp;

@@ -112,6 +112,9 @@ pub const TICK_MILLISECONDS: u64 = 250;
 /// How many milliseconds a connection that asks nothing keeps its desk where each desk is taken and somebody waits for one.
 pub const CROWDED_MILLISECONDS: u64 = 1_000;
 
+/// How many milliseconds a greeting has at a server that lives.
+pub const GREETING_MILLISECONDS: u64 = 5_000;
+
 /// How many desks a server that lives keeps for the pulls of each of its peers.
 pub const DESKS_OF_A_PEER: u32 = 2;
 

@@ -1,5 +1,5 @@
+use bayou_base::Refusal;
 use bayou_frames::ChannelFault;
-use bayou_wire::Refusal;
 use std::alloc::AllocError;
 
 /// Why a request over a link has no answer.

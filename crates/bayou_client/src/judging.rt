@@ -1,13 +1,24 @@
 //! Whether a whole reply answers the request.
-ghost use Rattle.std.specs.Prelude.{◌≡◌, [], Err, List};
-ghost use Rattle.bayou_wire.specs.declared.frame.Frame.TheVariants as frames;
+ghost use Rattle.std.specs.Prelude.{◌≡◌, [], if◌then◌else◌};
+ghost use Rattle.bayou_client.specs.declared.fault.LinkFault.TheVariants.{BadFrame, Refused};
 ghost use Rattle.bayou_client.specs.Exchange.{Judges, asks_dump, asks_read, asks_reopening, asks_write};
 
 use crate::fault::LinkFault;
 use crate::reading::Reply;
-use bayou_base::{Accepted, Seen, ServerId, Vector, Wid};
+use bayou_base::{Accepted, Refusal, Seen, ServerId, Vector, Wid};
 use bayou_lang::RestingWrite;
-use bayou_wire::{Frame, Refusal};
+use bayou_wire::Frame;
+
+// A refusal, where it answers what was asked; any other is no reply to it.
+fn refused(refusal: Refusal, answers: bool) -> LinkFault
+    ensures { result ≡ (if answers then Refused refusal else BadFrame) }
+{
+    if answers {
+        LinkFault::Refused(refusal)
+    } else {
+        LinkFault::BadFrame
+    }
+}
 
 /// A read is served by a Seen that has what was needed.
 pub(crate) fn seen_of(reply: Reply, need: &Vector) -> Result<Seen, LinkFault>
@@ -16,7 +27,7 @@ pub(crate) fn seen_of(reply: Reply, need: &Vector) -> Result<Seen, LinkFault>
     let Reply { writes: _, last } = reply;
     let seen = match last {
         Frame::Seen(seen) => seen,
-        Frame::Refused(refusal) => return Err(LinkFault::Refused(refusal)),
+        Frame::Refused(refusal) => return Err(refused(refusal, refusal.refuses_operation())),
         _ => return Err(LinkFault::BadFrame),
     };
     if !seen.vector.dominates(need) {
@@ -36,7 +47,7 @@ pub(crate) fn accepted_of(
     let Reply { writes: _, last } = reply;
     let accepted = match last {
         Frame::Accepted(accepted) => accepted,
-        Frame::Refused(refusal) => return Err(LinkFault::Refused(refusal)),
+        Frame::Refused(refusal) => return Err(refused(refusal, refusal.refuses_operation())),
         _ => return Err(LinkFault::BadFrame),
     };
     if !accepted.deps.dominates(need) || accepted.wid.origin.index != server.index {
@@ -51,19 +62,8 @@ pub(crate) fn reopened_of(reply: Reply) -> Result<Option<Wid>, LinkFault>
     let Reply { writes: _, last } = reply;
     match last {
         Frame::Reopened(adopted) => Ok(adopted),
-        Frame::Refused(refusal) => Err(LinkFault::Refused(refusal)),
+        Frame::Refused(refusal) => Err(refused(refusal, refusal.refuses_reopening())),
         _ => Err(LinkFault::BadFrame),
-    }
-}
-
-// A refusal stands alone: behind Items it is no reply.
-fn refused(writes: &[RestingWrite], refusal: Refusal) -> LinkFault
-    ensures { Judges asks_dump writes.now (frames.Refused refusal) (Err result) }
-{
-    if writes.is_empty() {
-        LinkFault::Refused(refusal)
-    } else {
-        LinkFault::BadFrame
     }
 }
 
@@ -74,7 +74,8 @@ pub(crate) fn dumped_of(reply: Reply) -> Result<Vec<RestingWrite>, LinkFault>
     let Reply { writes, last } = reply;
     let number = match last {
         Frame::End(number) => number,
-        Frame::Refused(refusal) => return Err(refused(&writes, refusal)),
+        // A refusal stands alone: after Items it is no reply.
+        Frame::Refused(refusal) => return Err(refused(refusal, writes.is_empty())),
         _ => return Err(LinkFault::BadFrame),
     };
     if number as usize != writes.len() {

@@ -9,7 +9,7 @@ use Rattle.bayou_lang.specs.Changes.{program_writes}
 use Rattle.bayou_lang.specs.Database.{Database, value_at}
 use Rattle.bayou_lang.specs.declared.write.Write.{Write}
 use Rattle.bayou_log.specs.Replay.{replay}
-use Rattle.bayou_server.specs.declared.fault.WriteFault.TheVariants.{Behind}
+use Rattle.bayou_base.specs.declared.refusal.Refusal.TheVariants.{Behind}
 
 -- the key has a value there, and it is this
 pub record IsRow (database : Database) (row : Row) : Type 0 where

@@ -1,8 +1,13 @@
 -- What becomes of a session at one server, by what it is told: this project's own (sessions by Terry et al. 1994).
-use Rattle.std.specs.Prelude.{◌≡◌, ◌≢◌, Bool, true, false, Option, None, Some}
+use Rattle.std.specs.Prelude.{◌≡◌, ◌≢◌, Bool, true, false, Option, None, Some, Result, Ok, Err}
+use Rattle.bayou_answers.specs.declared.answer.Recovery.{Recovery}
+use Rattle.bayou_answers.specs.declared.answer.Recovery.TheVariants.{NotReopened, Reopened}
 use Rattle.bayou_base.specs.declared.server.ServerId.{ServerId}
 use Rattle.bayou_base.specs.declared.value.Value.{Value}
+use Rattle.bayou_base.specs.declared.wid.Wid.{Wid}
 use Rattle.bayou_client.specs.declared.asker.Asked.{Asked}
+use Rattle.bayou_client.specs.declared.fault.LinkFault.{LinkFault}
+use Rattle.bayou_client.specs.declared.fault.LinkFault.TheVariants.{Refused}
 use Rattle.bayou_client.specs.Operating.{Asking, asks_at, asks_once_more, begins_read, told_accepted, told_seen}
 use Rattle.bayou_connect.specs.declared.asking.Attempt.{Attempt}
 use Rattle.bayou_connect.specs.declared.asking.Attempt.TheVariants as attempts
@@ -57,3 +62,9 @@ SeesOther value (told.Seen seen) = seen.value ≢ Some value
 SeesOther value (told.Accepted accepted) = ⊥
 SeesOther value (told.Refused fault) = ⊥
 SeesOther value told.Lost = ⊥
+
+-- what a server's reopening comes to by its reply, unless none came
+abbrev pub recovery_told : ServerId → Result (Option Wid) LinkFault → Option Recovery
+recovery_told server (Ok adopted) = Some (Reopened server adopted)
+recovery_told server (Err (Refused refusal)) = Some (NotReopened refusal)
+recovery_told server (Err _) = None

@@ -3,7 +3,7 @@ use Rattle.std.specs.Prelude.{◌≡◌, ◌⊎◌, ℕ, zero, suc, ◌-◌, Boo
 use Rattle.std.specs.List.{range_with_len}
 use Rattle.bayou_connect.specs.declared.told.Told.{Told}
 use Rattle.bayou_connect.specs.declared.told.Told.TheVariants as told
-use Rattle.bayou_server.specs.declared.fault.WriteFault.TheVariants as faults
+use Rattle.bayou_base.specs.declared.refusal.Refusal.TheVariants as refusals
 
 -- Another server may be asked: this one wasn't reached, or it refused, or it was asked for a read, which changes nothing. A Write is in doubt that
 -- was refused for a journal that failed, or whose reply was lost.
@@ -11,12 +11,8 @@ abbrev pub may_ask_another : (is_read : Bool) → Told → Bool
 may_ask_another is_read told.Away = true
 may_ask_another is_read (told.Seen seen) = false
 may_ask_another is_read (told.Accepted accepted) = false
-may_ask_another is_read (told.Refused faults.Journal) = is_read
-may_ask_another is_read (told.Refused faults.TagUsed) = true
-may_ask_another is_read (told.Refused faults.Down) = true
-may_ask_another is_read (told.Refused (faults.Behind vector)) = true
-may_ask_another is_read (told.Refused faults.LogFull) = true
-may_ask_another is_read (told.Refused faults.OutOfMemory) = true
+may_ask_another is_read (told.Refused refusals.Journal) = is_read
+may_ask_another is_read (told.Refused _) = true
 may_ask_another is_read told.Lost = is_read
 
 -- the last refusal or lost reply, where there was one

@@ -9,10 +9,9 @@ use crate::fault::ConnectFault;
 use crate::round::{Ways, in_rounds};
 use crate::store::Store;
 use crate::told::Told;
-use bayou_base::{Seen, SessionId, Vector};
+use bayou_base::{Refusal, Seen, SessionId, Vector};
 use bayou_lang::RestingWrite;
 use bayou_net::Sockets;
-use bayou_server::WriteFault;
 use std::fs::{File, Files};
 use std::sync::Wait;
 use std::time::Clock;
@@ -74,7 +73,7 @@ fn enough(held: Option<Vector>, need: &Vector) -> Result<Vector, Told>
     if vector.dominates(need) {
         Ok(vector)
     } else {
-        Err(Told::Refused(WriteFault::Behind(vector)))
+        Err(Told::Refused(Refusal::Behind(vector)))
     }
 }
 
@@ -86,7 +85,7 @@ impl<T: Sockets + Wait + Clock> Ways<Vector> for Listing<'_, T> {
     fn ask(&mut self, need: &Vector, at: usize) -> Result<Told, ConnectFault> {
         self.at = at;
         let held = self.store.held_at(self.rt, at)?;
-        let vector = match enough(held, need) {
+        let vector = match enough(held.map(|held| held.vector), need) {
             Ok(vector) => vector,
             Err(told) => return Ok(told),
         };

@@ -8,12 +8,9 @@ ghost use Rattle.bayou_connect.specs.Operating.{HasDone, IsNoService, TellsRead,
 use crate::fault::ConnectFault;
 use crate::remembering::StateFile;
 use crate::told::Told;
-use bayou_base::{Accepted, Entry, Key, Seen, ServerId};
+use bayou_base::{Accepted, Entry, Key, Refusal, Seen, ServerId};
 use bayou_client::{Asker, Heard, Link, LinkFault};
 use bayou_lang::RestingProgram;
-use bayou_net::write_fault_of;
-use bayou_server::WriteFault;
-use bayou_wire::Refusal;
 use std::alloc::{AllocError, Global};
 use std::io::{Read, Write};
 
@@ -53,24 +50,13 @@ pub(crate) struct Done {
     pub(crate) entry: Option<Entry>,
 }
 
-// What a refused operation is told. A refusal that answers none is as no reply.
-fn refused(refusal: Refusal) -> Told
-    ensures { IsNoService result }
-{
-    match write_fault_of(refusal) {
-        Some(fault) => Told::Refused(fault),
-        None => Told::Lost,
-    }
-}
-
 // What an operation is told that wasn't served.
 fn unserved(fault: LinkFault) -> Told
     ensures { IsNoService result }
 {
     match fault {
-        LinkFault::Refused(refusal) => refused(refusal),
-        LinkFault::OutOfMemory => Told::Refused(WriteFault::OutOfMemory),
-        LinkFault::Lost | LinkFault::BadFrame => Told::Lost,
+        LinkFault::Refused(refusal) => Told::Refused(refusal),
+        LinkFault::Lost | LinkFault::BadFrame | LinkFault::OutOfMemory => Told::Lost,
     }
 }
 

@@ -10,6 +10,7 @@ use crate::doing::{Became, Wrong, do_line};
 use crate::fault::ConnectFault;
 use crate::lines::{Lines, Next};
 use crate::plan::{Plan, asks_of_both, asks_text};
+use crate::reach::{DRAWN_BYTES, Greeter};
 use crate::remembering::{Remembered, StateFile, remember};
 use crate::round::ROUNDS_PER_SECOND;
 use crate::store::Store;
@@ -94,6 +95,19 @@ fn prompt<E: Write>(desk: &Desk, errors: &mut E) -> Result<(), ConnectFault> {
     Ok(())
 }
 
+// Tells, as far as it can be told, who answered in place of a server, where that wasn't told yet.
+fn tell_strangers<E: Write>(desk: &mut Desk, errors: &mut E) -> Result<(), ConnectFault> {
+    for at in 0..desk.store.len() {
+        let alloc = desk.alloc;
+        if let Some((place, stranger)) = desk.store.news_at(at) {
+            let (id, address) = (place.id.index, place.address);
+            let line = format!(in alloc; "bayou: server {id} at {address} {stranger}\n")?;
+            let _ = errors.write_all(line.as_bytes());
+        }
+    }
+    Ok(())
+}
+
 // Does the lines that the reader has left, as they come. Each that can't be done is told; it ends the input, unless a person types it.
 fn do_lines<I, W, E, T>(
     rt: &T,
@@ -118,7 +132,9 @@ where
         if is_terminal {
             prompt(desk, errors)?;
         }
-        match do_next(rt, desk, &mut lines, output)? {
+        let became = do_next(rt, desk, &mut lines, output)?;
+        tell_strangers(desk, errors)?;
+        match became {
             Became::Done => {}
             Became::Quit => break,
             Became::Ended => {
@@ -141,6 +157,20 @@ where
         (true, _) => Ended::Refused,
         (false, true) => Ended::Served,
         (false, false) => Ended::Unserved,
+    })
+}
+
+// How this program greets servers.
+fn greeter_of<T: RandomSource>(rt: &T, alloc: Global) -> Result<Greeter, ConnectFault> {
+    let mut drawn = [0; DRAWN_BYTES];
+    if rt.fill_bytes(&mut drawn).is_err() {
+        return Err(ConnectFault::Random);
+    }
+    Ok(Greeter {
+        alloc,
+        servers: None,
+        drawn,
+        greetings: 0,
     })
 }
 
@@ -338,6 +368,7 @@ where
         state,
         book,
         plan.timeout_seconds,
+        greeter_of(rt, alloc)?,
     )?;
     let mut desk = desk_of(alloc, plan, store, run, first_number, OWN, asks);
     do_lines(rt, &mut desk, input, output, errors)

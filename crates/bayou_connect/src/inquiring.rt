@@ -1,5 +1,6 @@
 //! What is asked of servers beside a session's operations.
 ghost use Rattle.std.specs.Prelude.{◌≡◌};
+ghost use Rattle.bayou_connect.specs.Operating.{recovery_told};
 ghost use Rattle.bayou_connect.specs.Sessions.{kept_of, need_of as needed};
 
 use crate::anywhere::{Listed, listed_anywhere};
@@ -12,7 +13,7 @@ use bayou_answers::{Answer, Recovery};
 use bayou_base::{ServerId, SessionId, Vector, Wid};
 use bayou_client::LinkFault;
 use bayou_lang::RestingWrite;
-use bayou_net::{Sockets, reopen_fault_of};
+use bayou_net::Sockets;
 use bayou_print::{
     LIST_LOST, REOPEN_AWAY, dumped_line, last_line, listed_keys_line, row_line, seat_line,
     server_line,
@@ -23,12 +24,12 @@ use std::sync::Wait;
 use std::time::Clock;
 
 // What a reopening came to, unless no reply came that tells it.
-fn recovery_of(server: ServerId, told: Result<Option<Wid>, LinkFault>) -> Option<Recovery> {
+fn recovery_of(server: ServerId, told: Result<Option<Wid>, LinkFault>) -> Option<Recovery>
+    ensures { result ≡ recovery_told server told }
+{
     match told {
         Ok(adopted) => Some(Recovery::Reopened { server, adopted }),
-        Err(LinkFault::Refused(refusal)) => {
-            Some(Recovery::NotReopened(reopen_fault_of(refusal)?))
-        }
+        Err(LinkFault::Refused(refusal)) => Some(Recovery::NotReopened(refusal)),
         Err(LinkFault::Lost | LinkFault::BadFrame | LinkFault::OutOfMemory) => None,
     }
 }

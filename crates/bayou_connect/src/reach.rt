@@ -1,15 +1,25 @@
 //! Links to servers, which are opened as they are needed.
-ghost use Rattle.std.specs.Prelude.{◌≡◌, ◌<◌, false, true, ◌↔◌};
+ghost use Rattle.std.specs.Prelude.{◌≡◌, ◌<◌, ◌↔◌, None, false, if◌then◌else◌, true};
 
 use crate::deadline::{Deadline, milliseconds};
 use crate::plan::Place;
+use bayou_base::ServerId;
 use bayou_base::limits::SILENT_SECONDS;
 use bayou_client::Link;
+use bayou_greeting::Stranger;
+use bayou_handshake::{GreetingFault, greet_server};
 use bayou_net::Sockets;
+use bayou_streams::CountedChannel;
+use bayou_wire::layout::{GREETING_VERSION, NONCE_BYTES};
+use bayou_wire::{Hello, Known, Nonce, ServerCount};
+use std::alloc::Global;
 use std::io;
 use std::io::{ErrorKind, Read, Write};
 use std::net::TcpStream;
 use std::time::{Clock, Duration};
+
+/// How many bytes of the number of a greeting are drawn at random.
+pub(crate) const DRAWN_BYTES: usize = NONCE_BYTES - 4;
 
 /// How long a server that was silent is asked after all others, in milliseconds.
 const SILENT_MILLISECONDS: u64 = SILENT_SECONDS * 1_000;
@@ -53,14 +63,48 @@ impl<C: Clock> Write for Timed<'_, C> {
     }
 }
 
+/// How this program greets servers: with a number each time that no other greeting has.
+#[derive(Drop)]
+pub(crate) struct Greeter {
+    pub(crate) alloc: Global,
+    /// How many servers the store has by the words, where these say so.
+    pub(crate) servers: Option<ServerCount>,
+    /// What was drawn at random.
+    pub(crate) drawn: [u8; DRAWN_BYTES],
+    /// How often it has greeted.
+    pub(crate) greetings: u32,
+}
+
+impl Greeter {
+    // How it greets that server.
+    fn hello(&mut self, server: ServerId) -> Hello {
+        self.greetings = self.greetings.saturating_add(1);
+        let mut nonce = [0; NONCE_BYTES];
+        nonce[..DRAWN_BYTES].copy_from_slice(&self.drawn);
+        nonce[DRAWN_BYTES..].copy_from_slice(&self.greetings.to_be_bytes());
+        Hello {
+            version: GREETING_VERSION,
+            asked: Some(server),
+            from: None,
+            servers: self.servers,
+            nonce: Nonce::new(nonce),
+        }
+    }
+}
+
 /// A link over a socket, for one request: it and its whole reply have so much time.
 pub(crate) type SocketLink<'a, T> = Link<Timed<'a, T>, Timed<'a, T>>;
 
-/// A server, with a connection to it where one is open.
+/// A server, with a connection to it where one is open: one over which it was greeted, if it knows greetings.
 #[derive(Drop)]
 pub(crate) struct Access {
     pub(crate) place: Place,
     stream: Option<TcpStream>,
+    /// What it told as it was greeted last.
+    known: Option<Known>,
+    /// Who answered in its place last, if somebody else did; and whether that is still to be told.
+    stranger: Option<Stranger>,
+    is_news: bool,
     /// When the answer to what was asked last was to be there.
     deadline: Deadline,
     /// Until when it counts as silent, in milliseconds of the clock.
@@ -107,6 +151,9 @@ impl Access {
         Access {
             place,
             stream: None,
+            known: None,
+            stranger: None,
+            is_news: false,
             deadline: Deadline::new(0, 0),
             silent_until: 0,
         }
@@ -136,11 +183,83 @@ impl Access {
         }
     }
 
+    // Notes who answered in the server's place.
+    fn meet(&mut self, stranger: Stranger)
+        ensures { self.new.place ≡ self.old.place }
+    {
+        self.known = None;
+        self.is_news = self.is_news || self.stranger.as_ref() != Some(&stranger);
+        self.stranger = Some(stranger);
+    }
+
+    // A connection to the server over which it was greeted. One that knows no greetings is asked all the same, over a connection of its own.
+    fn greeted<T: Sockets + Clock>(
+        &mut self,
+        rt: &T,
+        greeter: &mut Greeter,
+        left: u64,
+    ) -> Option<TcpStream>
+        ensures { self.new.place ≡ self.old.place }
+    {
+        let stream = stream_to(rt, self.place, left)?;
+        let reader = end_of(rt, &stream, self.deadline)?;
+        let writer = end_of(rt, &stream, self.deadline)?;
+        let mut channel = CountedChannel::new(reader, writer);
+        let hello = greeter.hello(self.place.id);
+        match greet_server(greeter.alloc, &hello, &None, None, &mut channel) {
+            Ok(known) => {
+                self.known = Some(known);
+                self.stranger = None;
+                Some(stream)
+            }
+            Err(GreetingFault::Stranger(Stranger::Older)) => {
+                self.meet(Stranger::Older);
+                stream_to(rt, self.place, self.deadline.left(milliseconds(rt))?)
+            }
+            Err(GreetingFault::Stranger(stranger)) => {
+                self.meet(stranger);
+                None
+            }
+            Err(_) => None,
+        }
+    }
+
+    /// What the server told as it was greeted last, if it was.
+    pub(crate) fn known(&self) -> &Option<Known>
+        ensures { result.now ≡ self.now.known }
+    {
+        &self.known
+    }
+
+    /// Has the server greeted anew before the next request.
+    pub(crate) fn forget(&mut self)
+        ensures { self.new.place ≡ self.old.place }
+    {
+        self.stream = None;
+        self.known = None;
+    }
+
+    /// Who answers in the server's place, if that wasn't told yet.
+    pub(crate) fn news(&mut self) -> Option<Stranger>
+        ensures news { result ≡ (if self.old.is_news then self.old.stranger else None) }
+        ensures told { (self.new.place ≡ self.old.place) × (self.new.is_news ≡ false) }
+    {
+        if !self.is_news {
+            return None;
+        }
+        self.is_news = false;
+        match &self.stranger {
+            Some(stranger) => Some(stranger.copy()),
+            None => None,
+        }
+    }
+
     /// A link to the server, on which one request and its reply have so many seconds, the connection too; or none where the server isn't
-    /// reached: then nothing was sent.
+    /// reached, or another answers in its place: then nothing was sent.
     pub(crate) fn link<'a, T: Sockets + Clock>(
         &mut self,
         rt: &'a T,
+        greeter: &mut Greeter,
         seconds: u32,
     ) -> Option<SocketLink<'a, T>>
         ensures { self.new.place ≡ self.old.place }
@@ -149,7 +268,7 @@ impl Access {
         self.deadline = Deadline::new(now, seconds);
         if !self.is_open() {
             let left = self.deadline.left(now)?;
-            self.stream = stream_to(rt, self.place, left);
+            self.stream = self.greeted(rt, greeter, left);
         }
         let Some(stream) = &self.stream else {
             self.fail(milliseconds(rt));

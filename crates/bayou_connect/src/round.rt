@@ -5,8 +5,8 @@ ghost use Rattle.bayou_connect.specs.declared.told.Told.{Told as Answer};
 ghost use Rattle.bayou_connect.specs.declared.told.Told.TheVariants.{Away};
 
 use crate::told::Told;
+use bayou_base::Refusal;
 use bayou_base::limits::ROUND_MILLISECONDS;
-use bayou_server::WriteFault;
 use std::alloc::{AllocError, Global};
 use std::sync::Wait;
 use std::thread;
@@ -34,7 +34,7 @@ pub(crate) fn may_go_on(is_read: bool, told: &Told) -> bool
 {
     match told {
         Told::Away => true,
-        Told::Refused(WriteFault::Journal) | Told::Lost => is_read,
+        Told::Refused(Refusal::Journal) | Told::Lost => is_read,
         Told::Refused(_) => true,
         Told::Seen(_) | Told::Accepted(_) => false,
     }

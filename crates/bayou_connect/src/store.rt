@@ -11,14 +11,16 @@ use crate::audit_file::AuditFile;
 use crate::deadline::milliseconds;
 use crate::fault::ConnectFault;
 use crate::plan::Place;
-use crate::reach::Access;
+use crate::reach::{Access, Greeter};
 use crate::remembering::StateFile;
 use crate::round::{but_last, in_turn};
 use crate::told::Told;
 use bayou_base::{Asks, Entry, Key, Seen, ServerId, SessionId, Vector, Wid};
 use bayou_client::{Asker, LinkFault};
+use bayou_greeting::Stranger;
 use bayou_lang::RestingWrite;
 use bayou_net::Sockets;
+use bayou_print::Holds;
 use bayou_session::Session;
 use std::alloc::{AllocError, Global};
 use std::fs::{File, Files};
@@ -35,6 +37,7 @@ pub(crate) struct Store {
     book: Option<AuditFile>,
     /// How long a server has for its connection and its whole reply.
     timeout_seconds: u32,
+    greeter: Greeter,
     ghost one_each: { vec_len sessions ≡ NUMBER },
 }
 
@@ -95,6 +98,7 @@ impl Store {
         state: Option<StateFile>,
         book: Option<AuditFile>,
         timeout_seconds: u32,
+        greeter: Greeter,
     ) -> Result<Self, AllocError>
         requires { vec_len sessions ≡ NUMBER }
         ensures places { IfOk result (λ store. map (λ access. access.place) store.accesses.items ≡ places.now) }
@@ -107,6 +111,7 @@ impl Store {
             state,
             book,
             timeout_seconds,
+            greeter,
         })
     }
 
@@ -196,7 +201,7 @@ impl Store {
             return Ok(Told::Away);
         };
         let server = access.place.id;
-        let Some(mut link) = access.link(rt, self.timeout_seconds) else {
+        let Some(mut link) = access.link(rt, &mut self.greeter, self.timeout_seconds) else {
             return Ok(Told::Away);
         };
         let Some(asker) = &mut self.sessions[usize::from(who.index)] else {
@@ -234,7 +239,7 @@ impl Store {
         let Some(access) = self.accesses.get_mut(at) else {
             return Ok(None);
         };
-        let Some(mut link) = access.link(rt, self.timeout_seconds) else {
+        let Some(mut link) = access.link(rt, &mut self.greeter, self.timeout_seconds) else {
             return Ok(None);
         };
         let told = link.look(alloc, key);
@@ -242,24 +247,43 @@ impl Store {
         answered(told)
     }
 
-    /// What the server of this place in the list holds, if it tells that.
+    /// Who answers in the place of the server of this place in the list, and where, if that wasn't told yet.
+    pub(crate) fn news_at(&mut self, at: usize) -> Option<(Place, Stranger)> {
+        let access = self.accesses.get_mut(at)?;
+        let place = access.place;
+        Some((place, access.news()?))
+    }
+
+    /// What the server of this place in the list holds, and how much it may, if it tells that: as it is greeted anew, or to a read where it knows no
+    /// greetings.
     pub(crate) fn held_at<T: Sockets + Clock>(
         &mut self,
         rt: &T,
         at: usize,
-    ) -> Result<Option<Vector>, ConnectFault>
+    ) -> Result<Option<Holds>, ConnectFault>
         ensures { (self.new.sessions ≡ self.old.sessions) × (self.new.state ≡ self.old.state) × (self.new.book ≡ self.old.book) }
     {
         let alloc = self.alloc;
         let Some(access) = self.accesses.get_mut(at) else {
             return Ok(None);
         };
-        let Some(mut link) = access.link(rt, self.timeout_seconds) else {
+        access.forget();
+        let Some(mut link) = access.link(rt, &mut self.greeter, self.timeout_seconds) else {
             return Ok(None);
         };
+        if let Some(known) = access.known() {
+            return Ok(Some(Holds {
+                vector: known.vector,
+                limit: Some(known.limit),
+            }));
+        }
         let told = link.vector(alloc);
         access.settle(rt, &link);
-        answered(told)
+        let vector = answered(told)?;
+        Ok(vector.map(|vector| Holds {
+            vector,
+            limit: None,
+        }))
     }
 
     /// What the server of this place in the list tells as it is to open its journal again, if it is reached.
@@ -272,7 +296,7 @@ impl Store {
     {
         let alloc = self.alloc;
         let access = self.accesses.get_mut(at)?;
-        let mut link = access.link(rt, self.timeout_seconds)?;
+        let mut link = access.link(rt, &mut self.greeter, self.timeout_seconds)?;
         let told = link.reopen(alloc);
         access.settle(rt, &link);
         Some(told)
@@ -290,7 +314,7 @@ impl Store {
         let Some(access) = self.accesses.get_mut(at) else {
             return Ok(None);
         };
-        let Some(mut link) = access.link(rt, self.timeout_seconds) else {
+        let Some(mut link) = access.link(rt, &mut self.greeter, self.timeout_seconds) else {
             return Ok(None);
         };
         let told = link.dump(alloc);

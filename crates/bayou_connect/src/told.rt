@@ -1,6 +1,5 @@
 //! What became of an operation at one server.
-use bayou_base::{Accepted, Seen};
-use bayou_server::WriteFault;
+use bayou_base::{Accepted, Refusal, Seen};
 
 /// What became of an operation of a session at one server.
 #[derive(Debug, Drop)]
@@ -12,7 +11,7 @@ pub enum Told {
     /// A Write was accepted.
     Accepted(Accepted),
     /// It was refused.
-    Refused(WriteFault),
-    /// No reply came, or what came is none: it may have been done.
+    Refused(Refusal),
+    /// No reply came, or what came is none, or memory ran out here as it was asked: it may have been done.
     Lost,
 }

@@ -5,7 +5,7 @@ ghost use Rattle.bayou_base.specs.declared.entry.Entry.{Entry as Filed};
 ghost use Rattle.bayou_answers.specs.declared.answer.Answer.TheVariants.{Booked, Recovered};
 ghost use Rattle.bayou_answers.specs.declared.answer.Recovery.{Recovery as Recovering};
 ghost use Rattle.bayou_fleet.specs.Closings.{AnswersClosing, AnswersQuestion, IsLogged, IsReopening};
-ghost use Rattle.bayou_fleet.specs.Refusals.{NotReopenedAs};
+ghost use Rattle.bayou_fleet.specs.Refusals.{reopening_told};
 ghost use Rattle.bayou_fleet.specs.Servers.{InOne};
 ghost use Rattle.bayou_lang.specs.Writes.{count_of};
 ghost use Rattle.bayou_log.specs.Listing.{listing_of};
@@ -20,15 +20,14 @@ use crate::network::Network;
 use crate::phase::Closing;
 use bayou_answers::{Answer, Recovery, judged, surveyed};
 use bayou_audit::Ledgers;
-use bayou_base::{Entry, ServerId, Vector};
+use bayou_base::{Entry, Refusal, ServerId, Vector, Wid};
 use bayou_client::LinkFault;
 use bayou_judge::lend_dumps;
 use bayou_lang::RestingWrite;
 use bayou_log::Listed;
-use bayou_net::{Sockets, reopen_fault_of};
+use bayou_net::Sockets;
 use bayou_script::AuditFile;
 use bayou_text::Question;
-use bayou_wire::Refusal;
 use std::alloc::Global;
 use std::sync::Wait;
 
@@ -41,13 +40,19 @@ pub struct Inquiry {
     ghost one_each: { vec_len links ≡ count },
 }
 
-// What a refused reopening is answered; none where the refusal answers no reopening.
-fn unopened(refusal: Refusal) -> Option<Recovery>
-    ensures { NotReopenedAs refusal result }
+// What the reply to a reopening tells; without one the run ends.
+fn recovery_of(
+    server: ServerId,
+    told: Result<Option<Wid>, LinkFault>,
+) -> Result<Recovery, FleetFault>
+    ensures told { result ≡ reopening_told server told }
+    ensures whose { IfOk result (λ recovery. IsReopening server recovery) }
 {
-    match reopen_fault_of(refusal) {
-        Some(fault) => Some(Recovery::NotReopened(fault)),
-        None => None,
+    match told {
+        Ok(adopted) => Ok(Recovery::Reopened { server, adopted }),
+        Err(LinkFault::Refused(refusal)) => Ok(Recovery::NotReopened(refusal)),
+        Err(LinkFault::OutOfMemory) => Err(FleetFault::Memory),
+        Err(LinkFault::Lost | LinkFault::BadFrame) => Err(FleetFault::Network),
     }
 }
 
@@ -85,16 +90,8 @@ impl Inquiry {
         if at >= self.links.len() {
             return Err(FleetFault::Network);
         }
-        let recovery = match self.links[at].reopen(alloc) {
-            Ok(adopted) => Some(Recovery::Reopened { server, adopted }),
-            Err(LinkFault::Refused(refusal)) => unopened(refusal),
-            Err(LinkFault::OutOfMemory) => return Err(FleetFault::Memory),
-            Err(LinkFault::Lost | LinkFault::BadFrame) => None,
-        };
-        match recovery {
-            Some(recovery) => Ok(Answer::Recovered(recovery)),
-            None => Err(FleetFault::Network),
-        }
+        let recovery = recovery_of(server, self.links[at].reopen(alloc))?;
+        Ok(Answer::Recovered(recovery))
     }
 
     // What each server sends of what it holds.

@@ -4,21 +4,19 @@ ghost use Rattle.bayou_fleet.specs.Opening.{IsOpened};
 ghost use Rattle.bayou_fleet.specs.Operating.{AnswersAgain, AnswersAttempt, AnswersRead, AnswersWrite, IsAnswerTo, IsUnserved, KeepsOthers};
 ghost use Rattle.bayou_base.specs.declared.limits.TheConstants.{MAX_PLACES};
 ghost use Rattle.std.specs.List.{AllZip};
-ghost use Rattle.bayou_fleet.specs.Refusals.{RefusedAs, UnservedAs};
+ghost use Rattle.bayou_fleet.specs.Refusals.{UnservedAs};
 ghost use Rattle.bayou_session.specs.Needs.{new_session};
 
 use crate::fault::FleetFault;
 use crate::links::{SocketLink, links_to, renew};
 use bayou_answers::Answer;
 use bayou_audit::{AuditBook, Ledgers, Share};
-use bayou_base::{Asks, Key, ServerId, SessionId};
+use bayou_base::{Asks, Key, Refusal, ServerId, SessionId};
 use bayou_client::{Client, ClientFault, LinkFault};
 use bayou_lang::RestingProgram;
-use bayou_net::{Sockets, write_fault_of};
-use bayou_server::WriteFault;
+use bayou_net::Sockets;
 use bayou_session::Session;
 use bayou_text::{Attempt, Operation};
-use bayou_wire::Refusal;
 use std::alloc::{AllocError, Global};
 use std::net::SocketAddr;
 use std::sync::Wait;
@@ -40,30 +38,19 @@ pub enum RunSession<K: Ledgers> {
     Open(OpenSession<K>),
 }
 
-// What a refused operation is answered. A refusal that answers none is as no reply.
-fn refused(who: SessionId, refusal: Refusal) -> Answer
-    ensures told { RefusedAs who refusal result }
-    ensures whose { IsUnserved who result }
-{
-    match write_fault_of(refusal) {
-        Some(refusal) => Answer::Refused {
-            session: who,
-            refusal,
-        },
-        None => Answer::Lost { session: who },
-    }
-}
-
 // What an operation is answered that wasn't served.
 fn unserved(who: SessionId, fault: ClientFault) -> Answer
     ensures told { UnservedAs who fault result }
     ensures whose { IsUnserved who result }
 {
     match fault {
-        ClientFault::Link(LinkFault::Refused(refusal)) => refused(who, refusal),
+        ClientFault::Link(LinkFault::Refused(refusal)) => Answer::Refused {
+            session: who,
+            refusal,
+        },
         ClientFault::Link(LinkFault::OutOfMemory) => Answer::Refused {
             session: who,
-            refusal: WriteFault::OutOfMemory,
+            refusal: Refusal::OutOfMemory,
         },
         ClientFault::AuditFull | ClientFault::Link(LinkFault::Lost | LinkFault::BadFrame) => {
             Answer::Lost { session: who }

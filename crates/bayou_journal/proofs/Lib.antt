@@ -1,3 +1,4 @@
+pub mod Adding
 pub mod Calls
 pub mod Crashing
 pub mod Ending
@@ -5,6 +6,7 @@ pub mod Heading
 pub mod Honesty
 pub mod Raising
 pub mod Reading
+pub mod Several
 pub mod Tails
 pub mod Tearing
 pub mod Unfinished

@@ -78,10 +78,10 @@ torn_finds server records body count found dropped are is (inr old) = by (cases_
     by (inr (inr long)) = inr (whole (omega (arith, long)))
 
 pub opens_honestly : (server : ℕ) (records : Records) (body : List ℕ) (count : ℕ) (found : Records) (dropped : ℕ) → AreBodies records.bodies → IsBody body → version_of records ≡ NEWEST_VERSION
-    → Finds server (torn records.version server records.bodies body count) found dropped → IsHonest (bodies_in records) (Some (added_body body)) (bodies_in found)
+    → Finds server (torn records.version server records.bodies body count) found dropped → IsHonest (bodies_in records) (added_body body ∷ []) (bodies_in found)
 opens_honestly server records body count found dropped are is newest finds = by (torn_finds server records body count found dropped are is finds)
   where
-    by : (found ≡ records) ⊎ (found ≡ with_body records body) → IsHonest (bodies_in records) (Some (added_body body)) (bodies_in found)
+    by : (found ≡ records) ⊎ (found ≡ with_body records body) → IsHonest (bodies_in records) (added_body body ∷ []) (bodies_in found)
     by (inl same) = inl (ap bodies_in same)
     by (inr more) = inr (ap bodies_in more ∙ (is_pushed records body newest).tells)
 

@@ -1,9 +1,9 @@
 -- A journal's bytes: this project's own. The digests are those of SHA-256 (FIPS 180-4).
-use Rattle.std.specs.Prelude.{◌≡◌, ℕ, ◌<◌, ◌≤◌, List, [], ◌∷◌, ◌++◌, length}
+use Rattle.std.specs.Prelude.{◌≡◌, ℕ, ◌+◌, ◌<◌, ◌≤◌, List, [], ◌∷◌, ◌++◌, length}
 use Rattle.std.specs.Int.{w16, to_be_bytes}
 use Rattle.bayou_base.specs.declared.limits.TheConstants.{MAX_BODY_BYTES}
 use Rattle.bayou_device.specs.Device.{BeginsWith}
-use Rattle.bayou_journal.specs.declared.format.TheConstants.{MAGIC}
+use Rattle.bayou_journal.specs.declared.format.TheConstants.{DIGEST_BYTES, LENGTH_BYTES, MAGIC}
 use Rattle.sha2.specs.Sha256.{sha256}
 
 -- what every journal begins with, in a version of the format
@@ -40,6 +40,11 @@ entry before body = sized body ++ link before body
 abbrev pub entries : List ℕ → List (List ℕ) → List ℕ
 entries before [] = []
 entries before (body ∷ bodies) = entry before body ++ entries (link before body) bodies
+
+-- how many bytes they have
+abbrev pub entries_bytes : List (List ℕ) → ℕ
+entries_bytes [] = 0
+entries_bytes (body ∷ bodies) = LENGTH_BYTES + length body + DIGEST_BYTES + entries_bytes bodies
 
 -- the digest of the last of them
 abbrev pub last_link : List ℕ → List (List ℕ) → List ℕ

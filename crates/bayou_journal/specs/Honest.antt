@@ -1,5 +1,5 @@
 -- What is left of a journal where a device call fails, and the honest opening: this project's own.
-use Rattle.std.specs.Prelude.{◌≡◌, ◌⊎◌, ℕ, List, [], ◌∷◌, ◌++◌, Option, None, Some, take}
+use Rattle.std.specs.Prelude.{◌≡◌, ◌⊎◌, ℕ, List, [], ◌∷◌, ◌++◌, take}
 use Rattle.bayou_device.specs.Device.{BeginsWith}
 use Rattle.bayou_device.specs.Memory.{AddsFront}
 use Rattle.bayou_device.specs.declared.device.Device.{Ghosts}
@@ -9,10 +9,10 @@ use Rattle.bayou_journal.specs.declared.fault.OpenFault.{OpenFault}
 use Rattle.bayou_journal.specs.declared.fault.OpenFault.TheVariants.{Device, NotAJournal, OtherServer, OutOfMemory}
 use Rattle.bayou_journal.specs.declared.format.TheConstants.{NEWEST_VERSION}
 
--- The bodies found are those that were added, or those and the one in doubt, whose append failed, if there is one.
-abbrev pub IsHonest : (bodies : List Body) → (doubt : Option Body) → (found : List Body) → Type 0
-IsHonest bodies None found = found ≡ bodies
-IsHonest bodies (Some body) found = (found ≡ bodies) ⊎ (found ≡ bodies ++ body ∷ [])
+-- The bodies found are those that were added, and a front of those in doubt, whose append failed: none of them, or the first one, and so on.
+abbrev pub IsHonest : (bodies doubts found : List Body) → Type 0
+IsHonest bodies [] found = found ≡ bodies
+IsHonest bodies (body ∷ doubts) found = (found ≡ bodies) ⊎ IsHonest (bodies ++ body ∷ []) doubts found
 
 -- a body as it is added: in the newest version
 abbrev pub added_body : List ℕ → Body
@@ -42,16 +42,16 @@ pub record IsWhole {D : Type 0} (d : Ghosts D) (server : ℕ) (bodies : List Bod
 abbrev pub IsFrontOfHeader : ℕ → List ℕ → Type 0
 IsFrontOfHeader server bytes = (version : ℕ) × IsVersionOf server version × BeginsWith bytes (header version server)
 
--- the longest chain in the bytes tells the bodies that were added, or those and the one in doubt
-pub record IsRecovered (server : ℕ) (bodies : List Body) (doubt : Option Body) (bytes : List ℕ) : Type 0 where
+-- the longest chain in the bytes tells the bodies that were added, and a front of those in doubt
+pub record IsRecovered (server : ℕ) (bodies : List Body) (doubts : List Body) (bytes : List ℕ) : Type 0 where
   pub records : Records
   pub rest : List ℕ
   pub longest : AreLongest server bytes records rest
-  pub honest : IsHonest bodies doubt (bodies_in records)
+  pub honest : IsHonest bodies doubts (bodies_in records)
 
 -- it does; or no body was added yet, and the bytes are a front of the header
-abbrev pub IsRecoverable : ℕ → List Body → Option Body → List ℕ → Type 0
-IsRecoverable server bodies doubt bytes = ((bodies ≡ []) × IsFrontOfHeader server bytes) ⊎ IsRecovered server bodies doubt bytes
+abbrev pub IsRecoverable : ℕ → List Body → List Body → List ℕ → Type 0
+IsRecoverable server bodies doubts bytes = ((bodies ≡ []) × IsFrontOfHeader server bytes) ⊎ IsRecovered server bodies doubts bytes
 
 -- the bytes begin with the server's journal of some records, which tell these bodies
 pub record BeginsWithBodies (server : ℕ) (bodies : List Body) (bytes : List ℕ) : Type 0 where
@@ -65,30 +65,30 @@ pub record BeginsWithBodies (server : ℕ) (bodies : List Body) (bytes : List �
 abbrev pub KeepsBodies : {D : Type 0} → Ghosts D → (server : ℕ) → (bodies : List Body) → (device : D) → Type 0
 KeepsBodies d server bodies device = (bodies ≡ []) ⊎ BeginsWithBodies server bodies (d.kept device)
 
--- The device is honest for the bodies that were added: what is kept begins with them, if there are any; and a read gives them, and no
--- other behind them but the one in doubt.
-pub record IsHonestDevice {D : Type 0} (d : Ghosts D) (server : ℕ) (bodies : List Body) (doubt : Option Body) (device : D) : Type 0 where
+-- The device is honest for the bodies that were added: what is kept begins with them, if there are any; and a read gives them, and
+-- behind them no other than a front of those in doubt.
+pub record IsHonestDevice {D : Type 0} (d : Ghosts D) (server : ℕ) (bodies : List Body) (doubts : List Body) (device : D) : Type 0 where
   pub kept : KeepsBodies d server bodies device
-  pub recoverable : IsRecoverable server bodies doubt (d.content device)
+  pub recoverable : IsRecoverable server bodies doubts (d.content device)
 
--- the entries that go on in the bytes behind these records, up to where none stands, tell nothing, or the body in doubt
-pub record GoesOnHonestly (server : ℕ) (records : Records) (doubt : Option Body) (bytes : List ℕ) : Type 0 where
+-- the entries that go on in the bytes behind these records, up to where none stands, tell a front of those in doubt
+pub record GoesOnHonestly (server : ℕ) (records : Records) (doubts : List Body) (bytes : List ℕ) : Type 0 where
   pub more : List (List ℕ)
   pub rest : List ℕ
   pub sizes : AreBodies more
   pub split : bytes ≡ entries (end_of server records) more ++ rest
   pub longest : NoEntry (last_link (end_of server records) more) rest
-  pub honest : IsHonest [] doubt (told (version_of records) more)
+  pub honest : IsHonest [] doubts (told (version_of records) more)
 
--- The device crashed, maybe as a body was being added: it keeps what it kept, and behind that stands any tail. In what is kept behind the
--- bodies that were added, and the tail, nothing goes on from them but the body in doubt; and where the header wasn't kept yet, no more
+-- The device crashed, maybe as bodies were being added: it keeps what it kept, and behind that stands any tail. In what is kept behind the
+-- bodies that were added, and the tail, nothing goes on from them but a front of those in doubt; and where the header wasn't kept yet, no more
 -- than the header stands there.
-pub record HasCrashed {D : Type 0} (d : Ghosts D) (server : ℕ) (bodies : List Body) (doubt : Option Body) (old new : D) : Type 0 where
+pub record HasCrashed {D : Type 0} (d : Ghosts D) (server : ℕ) (bodies : List Body) (doubts : List Body) (old new : D) : Type 0 where
   pub as_kept : d.kept new ≡ d.kept old
   pub tail : List ℕ
   pub behind : d.content new ≡ d.kept old ++ tail
   pub none : (records : Records) (more : List ℕ) → IsVersionOf server records.version → AreBodies records.bodies → bodies_in records ≡ bodies → d.kept old ≡ journal_of server records ++ more
-      → GoesOnHonestly server records doubt (more ++ tail)
+      → GoesOnHonestly server records doubts (more ++ tail)
   pub begun : ((version : ℕ) × IsVersionOf server version × BeginsWith (header version server) (d.kept old)) ⊎ IsFrontOfHeader server (d.kept old ++ tail)
 
 -- The clauses say what the device holds, and a call that fails does no more than to tear: it adds no more than a front of its piece.

@@ -1,4 +1,5 @@
--- What an append of an entry may leave where it is cut off, each entry being synced before the next is appended: this project's own.
+-- What an append of an entry, or of several, may leave behind whole entries where it is cut off, each append being synced before the next: this
+-- project's own.
 use Rattle.std.specs.Prelude.{◌≡◌, ◌⊎◌, ℕ, ◌+◌, ◌*◌, ◌<◌, ◌≤◌, List, ◌++◌, All, get_or, length}
 use Rattle.bayou_base.specs.declared.limits.TheConstants.{MAX_BODY_BYTES}
 use Rattle.bayou_journal.specs.Chain.{NoEntry}

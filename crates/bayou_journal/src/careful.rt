@@ -116,9 +116,9 @@ fn entry_of_tear(tear: Tear, len: usize, count: usize) -> Option<DamagedEntry>
     }
 }
 
-/// A device whose cuts take no more than one entry that was torn. Where each append is synced before the next one, a failed or lost call tears
-/// no more than the entry that it was to add: what is more is damage, and not for a cut to mend. A cut of more is refused, changes nothing,
-/// and counts as a failure; so is one that isn't made right behind a read.
+/// A device whose cuts take no more than one entry that was torn. Where each append is synced before the next one, a failed or lost call that
+/// leaves a front of what it was to add, one entry or several, tears no more than one of them: what is more is damage, and not for a cut to
+/// mend. A cut of more is refused, changes nothing, and counts as a failure; so is one that isn't made right behind a read.
 #[derive(Drop)]
 pub struct CarefulDevice<D: Device> {
     device: D,

@@ -1,6 +1,7 @@
-ghost use Rattle.std.specs.Prelude.{◌≡◌, ◌↔◌, ◌+◌, ◌<◌, ◌≤◌, ◌^◌, ◌++◌, IsTrue, length, vec_capacity, vec_len};
+ghost use Rattle.std.specs.Prelude.{◌≡◌, ◌↔◌, ◌+◌, ◌<◌, ◌≤◌, ◌^◌, ◌++◌, IsTrue, length, map, vec_capacity, vec_len};
 ghost use Rattle.bayou_base.specs.declared.limits.TheConstants.{MAX_BODY_BYTES};
 ghost use Rattle.bayou_journal.specs.Chain;
+ghost use Rattle.bayou_journal.specs.Chain.{AreBodies, entries_bytes};
 ghost use Rattle.bayou_journal.specs.Versions.{IsVersion, IsVersionOf};
 
 use bayou_base::{MAX_BODY_BYTES, OLD_SERVERS, ServerId};
@@ -93,6 +94,43 @@ pub(crate) fn write_entry(bytes: &mut Vec<u8>, body: &[u8], digest: &[u8; DIGEST
     put(bytes, (body.len() as u16).to_be_bytes().as_slice());
     put(bytes, body);
     put(bytes, digest.as_slice());
+}
+
+// Adds an entry for which there is room.
+fn push_entry(bytes: &mut Vec<u8>, body: &[u8], digest: &[u8; DIGEST_BYTES])
+    requires body { length body.now ≤ MAX_BODY_BYTES }
+    requires room { vec_len bytes.old + (LENGTH_BYTES + length body.now + DIGEST_BYTES) ≤ vec_capacity bytes.old }
+    ensures items { bytes.new.items ≡ bytes.old.items ++ (Chain.sized body.now ++ digest.now) }
+    ensures len { vec_len bytes.new ≡ vec_len bytes.old + (LENGTH_BYTES + length body.now + DIGEST_BYTES) }
+    ensures room { vec_capacity bytes.old ≤ vec_capacity bytes.new }
+{
+    put(bytes, (body.len() as u16).to_be_bytes().as_slice());
+    put(bytes, body);
+    put(bytes, digest.as_slice());
+}
+
+// Writes the entries of the bodies, one behind the other, in the place of what the bytes were, and gives the digest of the last. It takes
+// no memory.
+pub(crate) fn write_entries(
+    bytes: &mut Vec<u8>,
+    before: &[u8; DIGEST_BYTES],
+    bodies: &[Vec<u8>],
+) -> [u8; DIGEST_BYTES]
+    requires bodies { AreBodies (map (λ body. body.items) bodies.now) }
+    requires within { entries_bytes (map (λ body. body.items) bodies.now) ≤ ENTRY_BYTES }
+    requires room { ENTRY_BYTES ≤ vec_capacity bytes.old }
+    ensures items { bytes.new.items ≡ Chain.entries before.now (map (λ body. body.items) bodies.now) }
+    ensures last { result ≡ Chain.last_link before.now (map (λ body. body.items) bodies.now) }
+    ensures room { ENTRY_BYTES ≤ vec_capacity bytes.new }
+{
+    bytes.clear();
+    let mut last = *before;
+    for body in bodies {
+        let digest = link_of(&last, body);
+        push_entry(bytes, body, &digest);
+        last = digest;
+    }
+    last
 }
 
 // Writes a header in the place of what the bytes were, which takes no memory.

@@ -1,14 +1,15 @@
-ghost use Rattle.std.specs.Prelude.{◌≡◌, ◌↔◌, ◌++◌, IfErr, IfOk, IsErrOf, OnErr, OnOk, true, false};
+ghost use Rattle.std.specs.Prelude.{◌≡◌, ◌↔◌, ◌≤◌, ◌++◌, map, IfErr, IfOk, IsErrOf, OnErr, OnOk, true, false};
 ghost use Rattle.std.specs.Borrow.{Lends, sem};
 ghost use Rattle.bayou_journal.specs.Journal.{with_device};
 ghost use Rattle.bayou_journal.specs.contracts.journal.Journal.{the_row};
 ghost use Rattle.bayou_device.specs.Device.{Rose};
 ghost use Rattle.bayou_journal.specs.Chain;
-ghost use Rattle.bayou_journal.specs.Chain.{IsBody};
+ghost use Rattle.bayou_journal.specs.Chain.{AreBodies, IsBody, entries_bytes};
+ghost use Rattle.bayou_journal.specs.declared.format.TheConstants.{ENTRY_BYTES};
 ghost use Rattle.bayou_journal.specs.Opening.{FailsToAdd, HasOpened, HasRefused, KeepsChains, OpensInCalls};
 
 use crate::fault::{AppendFault, NotOpened, OpenFault};
-use crate::format::{DIGEST_BYTES, ENTRY_BYTES, link_of, write_entry};
+use crate::format::{DIGEST_BYTES, ENTRY_BYTES, link_of, write_entries, write_entry};
 use crate::opened::Opened;
 use crate::restore::{restore, write_through};
 use bayou_base::ServerId;
@@ -106,6 +107,40 @@ impl<D: Device> Journal<D> {
         match write_through(&mut self.device, &self.entry) {
             Ok(()) => {
                 self.last = digest;
+                Ok(())
+            }
+            Err(Failed) => {
+                self.is_down = true;
+                Err(AppendFault::Device)
+            }
+        }
+    }
+
+    /// Adds the entries of the bodies behind what the device holds, in their order, as one piece, and syncs them together. They have no
+    /// more bytes than the longest entry may have. Device calls: the append, the sync. Where one of them fails the journal is down, and
+    /// an opening finds a front of the bodies: of a front of the piece no more than one entry is torn. It takes no memory of its own.
+    pub fn append_all(&mut self, bodies: &[Vec<u8>]) -> Result<(), AppendFault>
+        requires bodies { AreBodies (map (λ body. body.items) bodies.now) }
+        requires within { entries_bytes (map (λ body. body.items) bodies.now) ≤ ENTRY_BYTES }
+        ensures down { IsErrOf result AppendFault.Down ↔ (self.old.is_down ≡ true) }
+        ensures unchanged { IsErrOf result AppendFault.Down → self.new ≡ self.old }
+        ensures added { D.is_modelled → OnOk result (D.content self.new.device ≡ D.content self.old.device ++ Chain.entries self.old.last (map (λ body. body.items) bodies.now)) }
+        ensures synced { OnOk result (D.kept self.new.device ≡ D.content self.new.device) }
+        ensures ends { OnOk result (self.new ≡ record self.old { device = self.new.device; last = Chain.last_link self.old.last (map (λ body. body.items) bodies.now) }) }
+        ensures counts { OnOk result (D.failures self.new.device ≡ D.failures self.old.device) }
+        ensures fault { IsErrOf result AppendFault.Device → self.new ≡ record self.old { device = self.new.device; is_down = true } }
+        ensures rose { IsErrOf result AppendFault.Device → Rose (D.failures self.old.device) (D.failures self.new.device) }
+        ensures left { D.is_modelled → IsErrOf result AppendFault.Device → FailsToAdd D.may_leave (Chain.entries self.old.last (map (λ body. body.items) bodies.now)) (D.content self.old.device) (D.content self.new.device) }
+        ensures safe { D.is_modelled → KeepsChains (D.kept self.old.device) (D.kept self.new.device) }
+        ensures calls { D.leads_to 2 self.old.device self.new.device }
+    {
+        if self.is_down {
+            return Err(AppendFault::Down);
+        }
+        let last = write_entries(&mut self.entry, &self.last, bodies);
+        match write_through(&mut self.device, &self.entry) {
+            Ok(()) => {
+                self.last = last;
                 Ok(())
             }
             Err(Failed) => {

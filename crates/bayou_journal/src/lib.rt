@@ -11,7 +11,7 @@
 //! each other body, in the version that the chain has there. An opening raises an older chain to the newest version by a
 //! mark behind it, and changes nothing before that, so bodies are added in the newest version alone.
 //!
-//! A caller appends bodies of 1 to [`MAX_BODY_BYTES`](bayou_base::MAX_BODY_BYTES) bytes. The crate doesn't promise what a
+//! A caller appends bodies of 1 to [`MAX_BODY_BYTES`](bayou_base::MAX_BODY_BYTES) bytes, one by one, or several by one append and one sync. The crate doesn't promise what a
 //! real file holds, nor that a digest is never met by chance.
 #![tactic(auto)]
 

@@ -2,10 +2,9 @@
 use crate::fixtures::{key, resting_put, server_id};
 use crate::gates::{AWAITED, open, wait_while};
 use bayou_audit::{AuditBook, Ledgers, Share};
-use bayou_base::{Asks, Seen, Wid};
+use bayou_base::{Asks, Refusal, Seen, Wid};
 use bayou_client::{Client, Link, LinkFault};
 use bayou_session::{FIRST_RUN, Session};
-use bayou_wire::Refusal;
 use std::alloc::Global;
 use std::net::TcpStream;
 use std::process::Abort;

@@ -66,7 +66,7 @@ AreKept-push count limit writes more write same kept fits below =
 pub ruleset counts_within = (count_of-most)
 
 -- the counts of the Writes with one more that fits
-raised_vector : (count : ℕ) (writes : List Write) (vector : List ℕ) (write : Write) → vector ≡ count_of writes → Fits count writes write
+pub raised_vector : (count : ℕ) (writes : List Write) (vector : List ℕ) (write : Write) → vector ≡ count_of writes → Fits count writes write
     → raised vector write.wid ≡ count_of (writes ++ write ∷ [])
 raised_vector count writes vector write counted fits =
     let i = write.wid.origin.index in

@@ -30,7 +30,7 @@ none_of_wid count writes wid fitting missed k d within same =
     missed (subst (λ (w : Wid). w.seq ≤ slice_index (count_of writes) w.origin.index) same ((fitting_is_prefix_closed count writes fitting).none_beyond k d within))
 
 -- a place stays where it is as one is added, whoever's it is
-place_kept : (rows new : List (List ℕ)) (origin server seq place : ℕ) → 0 < seq → seq ≤ length (places_of rows server) → places_of new origin ≡ places_of rows origin ++ place ∷ []
+pub place_kept : (rows new : List (List ℕ)) (origin server seq place : ℕ) → 0 < seq → seq ≤ length (places_of rows server) → places_of new origin ≡ places_of rows origin ++ place ∷ []
     → ((server : ℕ) → server ≢ origin → places_of new server ≡ places_of rows server) → place_in new server seq ≡ place_in rows server seq
 place_kept rows new origin server seq place some within own others =
     elim (server == origin) as (λ t. (server == origin) ≡ t → place_in new server seq ≡ place_in rows server seq) [

@@ -11,4 +11,5 @@ pub mod Picked
 pub mod Prefixed
 pub mod Rooms
 pub mod Slots
+pub mod TakenBack
 pub mod Undone

@@ -1,9 +1,10 @@
 -- How the places of the servers' Writes have room.
-use Rattle.std.proofs.Common.{◌≡◌, ◌≢◌, ℕ, ◌+◌, ◌<◌, ◌≤◌, ◌==◌, true, false, List, [], ◌∷◌, ◌++◌, ap, sym, ◌∙◌, refl, subst, arith, get_or, length, map, set, vec_capacity, vec_items, vec_len}
+use Rattle.std.proofs.Common.{◌≡◌, ◌≢◌, ℕ, ◌+◌, ◌<◌, ◌≤◌, ◌==◌, true, false, List, [], ◌∷◌, ◌++◌, ap, sym, ◌∙◌, refl, subst, arith, get_or, length, map, set, Option, None, Some, IsSome, vec_capacity, vec_items, vec_len}
 use Rattle.std.proofs.lemmas.Bool.Decides.{nat_tests}
 use Rattle.std.proofs.lemmas.List.{get_or-map, get_or-set_other, get_or-set_same, map-set}
 use Rattle.std.proofs.Math.ListN.{length-set}
 use Rattle.std.specs.Global.{Vec}
+use Rattle.std.specs.Option.{option_to_list}
 use Rattle.bayou_log.specs.declared.index.TheConstants.{AHEAD}
 use Rattle.bayou_log.specs.Inner.Index.{places_of}
 
@@ -42,3 +43,16 @@ pub other_places : (places : List (Vec ℕ)) (at server : ℕ) (new : Vec ℕ) �
     → places_of (map vec_items (set places at new)) server ≡ places_of (map vec_items places) server
 other_places places at server new other =
     ap (λ rows. places_of rows server) (map-set vec_items places at new) ∙ get_or-set_other (map vec_items places) at server (vec_items new) [] other
+
+-- the server's places with one less
+pub own_less : (places : List (Vec ℕ)) (at origin : ℕ) (new own : Vec ℕ) (last : ℕ) → at ≡ origin → at < length places
+    → vec_items (get_or places at own) ≡ vec_items new ++ last ∷ [] → places_of (map vec_items places) origin ≡ places_of (map vec_items (set places at new)) origin ++ last ∷ []
+own_less places at origin new own last same within less =
+    ap (places_of (map vec_items places)) (sym same) ∙ get_or-map vec_items places at own [] within ∙ less
+    ∙ ap (λ items. items ++ last ∷ []) (sym (ap (places_of (map vec_items (set places at new))) (sym same)
+    ∙ get_or-map vec_items (set places at new) at new [] (omega (arith, within, length-set places at new)) ∙ ap vec_items (get_or-set_same places at new new within)))
+
+-- what was taken off the end
+pub some_last : (last : Option ℕ) (old new : List ℕ) → old ≡ new ++ option_to_list last → IsSome last → (place : ℕ) × (old ≡ new ++ place ∷ [])
+some_last None old new split some = absurd cc
+some_last (Some place) old new split some = (place, split)

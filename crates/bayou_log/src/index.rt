@@ -79,4 +79,13 @@ impl Index {
         self.places[usize::from(wid.origin.index)].push_reserved(place);
         self.room -= 1;
     }
+
+    /// Takes the place of the server's last Write away. The room stays what it was.
+    pub(crate) fn take_back(&mut self, wid: Wid)
+        requires { 0 < length (places_of self.old.rows wid.origin.index) }
+        ensures own { (last : ℕ) × (places_of self.old.rows wid.origin.index ≡ places_of self.new.rows wid.origin.index ++ last ∷ []) }
+        ensures others { (server : ℕ) → server ≢ wid.origin.index → places_of self.new.rows server ≡ places_of self.old.rows server }
+    {
+        self.places[usize::from(wid.origin.index)].pop();
+    }
 }

@@ -1,5 +1,5 @@
 //! What takes the applied Writes back, the last one first.
-ghost use Rattle.std.specs.Prelude.{◌≡◌, ℕ, ◌+◌, ◌<◌, ◌≤◌, [], ◌∷◌, ◌++◌, All, IsTrue, MatchOption, OnOk, drop, length, reverse, take, vec_capacity, vec_len};
+ghost use Rattle.std.specs.Prelude.{◌≡◌, ℕ, ◌+◌, ◌-◌, ◌<◌, ◌≤◌, [], ◌∷◌, ◌++◌, All, IsTrue, MatchOption, OnOk, drop, length, reverse, take, vec_capacity, vec_len};
 ghost use Rattle.arrayvec.specs.ArrayVec.{array_vec_len};
 ghost use Rattle.bayou_base.specs.declared.limits.TheConstants.{MAX_OPS, MAX_WRITES};
 ghost use Rattle.bayou_lang.specs.Changes.{after_changes};
@@ -103,6 +103,14 @@ impl UndoStack {
     {
         let _ = self.changes.room();
         self.promised += more;
+    }
+
+    /// Some changes fewer are promised room, which stays.
+    pub(crate) fn release(&mut self, less: usize)
+        requires { less ≤ self.old.promised }
+        ensures { self.new ≡ record self.old { promised = self.old.promised - less } }
+    {
+        self.promised -= less;
     }
 
     /// Adds what takes back the Write that was applied now, which takes no memory.

@@ -1,4 +1,4 @@
-ghost use Rattle.std.specs.Prelude.{◌≡◌, ◌≢◌, ℕ, ◌+◌, ◌<◌, ◌≤◌, ◌↔◌, [], ◌∷◌, ◌++◌, All, Contains, IsTrue, IfNone, IfOk, IfSome, OnOk, length, option_copied, slice_index, take};
+ghost use Rattle.std.specs.Prelude.{◌≡◌, ◌≢◌, ℕ, ◌+◌, ◌-◌, ◌<◌, ◌≤◌, ◌↔◌, [], ◌∷◌, ◌++◌, All, Contains, IsTrue, IfNone, IfOk, IfSome, OnOk, length, option_copied, slice_index, take};
 ghost use Rattle.bayou_base.specs.declared.limits.TheConstants.{SERVERS, MAX_WRITES};
 ghost use Rattle.bayou_lang.specs.declared.write.Write.{Write};
 ghost use Rattle.bayou_lang.specs.Database.{value_at};
@@ -15,6 +15,7 @@ use crate::db::Db;
 use crate::fitting::{Misfit, is_next};
 use crate::index::Index;
 use crate::listing::{Listed, listed_in_turn};
+use crate::next::counts_and_clock;
 use crate::order::{earlier, put_in_order};
 use crate::undo::{UndoStack, apply_in_turn, take_back};
 use bayou_base::{Key, MAX_WRITES, SERVERS, Value, Vector, Wid};
@@ -324,6 +325,21 @@ impl WriteLog {
         self.clock = self.clock.max(write.stamp().clock);
         self.undone.promise(write.program().most_changes());
         self.writes.push_reserved(write);
+    }
+
+    /// Takes the last Write back, which waits: the others are held as before it was placed. It takes no memory, and looks at each of the others.
+    pub fn take_back(&mut self) -> RestingWrite
+        requires { 0 < self.old.waiting }
+        ensures held { self.old.receipts ≡ self.new.receipts ++ result ∷ [] }
+        ensures same { self.new ≡ record self.old { receipts = self.new.receipts; room = self.new.room; waiting = self.old.waiting - 1 } }
+    {
+        let Some(write) = self.writes.pop() else {
+            unreachable!();
+        };
+        self.own.take_back(write.wid());
+        self.undone.release(write.program().most_changes());
+        (self.vector, self.clock) = counts_and_clock(self.count, &self.writes);
+        write
     }
 
     /// Applies the Writes that wait, from which no want of memory keeps it. Those that come after one of them in stamp order are taken back, the last

@@ -14,12 +14,14 @@ use Rattle.bayou_log.specs.Listing.{listing_of}
 use Rattle.bayou_server.specs.declared.answer.Stopped.{Stopped as StoppedServer}
 use Rattle.bayou_server.specs.declared.answer.Written.{Written}
 use Rattle.bayou_server.specs.declared.fault.Behind.{Behind}
+use Rattle.bayou_server.specs.declared.fault.ReopenFault.{ReopenFault}
 use Rattle.bayou_server.specs.declared.fault.StartFault.{StartFault}
 use Rattle.bayou_server.specs.declared.fault.StartFault.TheVariants.{OutOfMemory}
 use Rattle.bayou_server.specs.declared.fault.WriteFault.{WriteFault}
-use Rattle.bayou_server.specs.declared.fault.WriteFault.TheVariants.{Behind as BehindNeed}
+use Rattle.bayou_server.specs.Faults.{reopen_refusal, write_refusal}
+use Rattle.bayou_base.specs.declared.refusal.Refusal.TheVariants.{Behind as BehindNeed}
 use Rattle.bayou_server.specs.Reads.{Reads}
-use Rattle.bayou_server.specs.Reopens.{Reopens}
+use Rattle.bayou_server.specs.Reopens.{ReopensAll}
 use Rattle.bayou_journal.specs.Opening.{KeepsChains}
 use Rattle.bayou_server.specs.Server.{Holds, IsSoundServer, ServerState, holds_of, with_device}
 use Rattle.bayou_server.specs.Starts.{FailsToStart, Starts, StartsOn}
@@ -64,7 +66,7 @@ on_device (Stopped left) device = Stopped (record left { device = device })
 
 abbrev pub write_answer : SessionId → Result Written WriteFault → Answer
 write_answer who (Ok written) = Wrote who (given_of written)
-write_answer who (Err refusal) = Refused who refusal
+write_answer who (Err fault) = Refused who (write_refusal fault)
 
 abbrev pub read_answer : SessionId → List ℕ → Result Seen Behind → Answer
 read_answer who key (Ok seen) = Read who key seen
@@ -185,11 +187,12 @@ IsShortened count before after = after ≡ on_device before (shortened count (de
 -- a server that runs was to be reopened, and a stopped one isn't
 abbrev pub IsReopened : ServerId → ScriptServer → Recovery → ScriptServer → Type 0
 IsReopened id before (Reopened name adopted) after = (name ≡ id) × ((old new : Serving) × (before ≡ Running old) × (after ≡ Running new)
-    × Reopens old.core (Ok (record { adopted = adopted })) new.core × ReopensJournal memory_device old (Ok (record { adopted = adopted })) new
+    × ReopensAll old.core old.taking (Ok (record { adopted = adopted })) new.core × ReopensJournal memory_device old (Ok (record { adopted = adopted })) new
     × OpensInCalls memory_device old.core.id old.device new.device
     × IsSoundServer old.core × IsSoundServer new.core × KeepsChains (kept_bytes old.device) (kept_bytes new.device))
-IsReopened id before (NotReopened refusal) after = (old new : Serving) × (before ≡ Running old) × (after ≡ Running new)
-    × Reopens old.core (Err refusal) new.core × ReopensJournal memory_device old (Err refusal) new × OpensInCalls memory_device old.core.id old.device new.device
+IsReopened id before (NotReopened refusal) after = (old new : Serving) × (fault : ReopenFault) × (before ≡ Running old) × (after ≡ Running new)
+    × (refusal ≡ reopen_refusal fault)
+    × ReopensAll old.core old.taking (Err fault) new.core × ReopensJournal memory_device old (Err fault) new × OpensInCalls memory_device old.core.id old.device new.device
     × IsSoundServer old.core × IsSoundServer new.core × KeepsChains (kept_bytes old.device) (kept_bytes new.device)
 IsReopened id before NotRunning after = (left : StoppedServer Memory) × (before ≡ Stopped left) × (after ≡ before)
 IsReopened id before (Restarted name holds dropped) after = ⊥

@@ -3,7 +3,7 @@ ghost use Rattle.std.specs.Prelude.{◌≡◌, ◌<◌, IfOk, IfErr, IfSome, IsS
 
 use crate::seat::Seat;
 use bayou_answers::{Answer, BeginFault, Recovery};
-use bayou_base::{Key, ServerId, SessionId, Tag};
+use bayou_base::{Key, Refusal, ServerId, SessionId, Tag};
 use bayou_device::{MemoryDevice, OpenGate};
 use bayou_lang::{RestingProgram, RestingWrite};
 use bayou_script::Servers;
@@ -179,7 +179,7 @@ impl ScriptServer {
                 server: id,
                 adopted: reopened.adopted,
             },
-            Err(refusal) => Recovery::NotReopened(refusal),
+            Err(fault) => Recovery::NotReopened(Refusal::from(fault)),
         }
     }
 

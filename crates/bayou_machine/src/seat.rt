@@ -7,7 +7,7 @@ ghost use Rattle.bayou_machine.specs.Seats.{asks_at, asks_once_more, begins_read
 ghost use Rattle.bayou_session.specs.Needs.{IsTagOf, read_need, write_need};
 
 use bayou_answers::Answer;
-use bayou_base::{Accepted, Asks, Key, Seen, ServerId, SessionId, Tag, Vector};
+use bayou_base::{Accepted, Asks, Key, Refusal, Seen, ServerId, SessionId, Tag, Vector};
 use bayou_lang::RestingProgram;
 use bayou_server::{Behind, WriteFault, Written};
 use bayou_session::{FIRST_RUN, Session};
@@ -164,9 +164,9 @@ impl Seat {
                     accepted,
                 }
             }
-            Err(refusal) => Answer::Refused {
+            Err(fault) => Answer::Refused {
                 session: who,
-                refusal,
+                refusal: Refusal::from(fault),
             },
         }
     }
@@ -196,7 +196,7 @@ impl Seat {
             }
             Err(behind) => Answer::Refused {
                 session: who,
-                refusal: WriteFault::Behind(behind.vector),
+                refusal: Refusal::Behind(behind.vector),
             },
         }
     }

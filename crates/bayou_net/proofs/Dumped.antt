@@ -18,7 +18,7 @@ use Rattle.bayou_net.specs.Serving.{Serves, Steps}
 use Rattle.bayou_streams.specs.Written.{AppendsFront}
 use Rattle.bayou_wire.specs.declared.frame.Frame.{Frame}
 use Rattle.bayou_wire.specs.declared.frame.Frame.TheVariants.{Dump, End, Item, Refused}
-use Rattle.bayou_wire.specs.declared.frame.Refusal.TheVariants.{OutOfMemory}
+use Rattle.bayou_base.specs.declared.refusal.Refusal.TheVariants.{OutOfMemory}
 use Rattle.bayou_wire.specs.Spelling.{kind_of, payload_bytes}
 use Rattle.bayou_wire.specs.Stream.{spelling, spellings}
 

@@ -13,7 +13,7 @@ use Rattle.bayou_server.specs.declared.answer.Written.{Written}
 use Rattle.bayou_server.specs.declared.fault.ReopenFault.{ReopenFault}
 use Rattle.bayou_server.specs.declared.fault.WriteFault.{WriteFault}
 use Rattle.bayou_server.specs.Reads.{Reads}
-use Rattle.bayou_server.specs.Reopens.{Reopens}
+use Rattle.bayou_server.specs.Reopens.{ReopensAll, ReopensSome}
 use Rattle.bayou_server.specs.Server.{IsSoundServer, ServerState}
 use Rattle.bayou_server.specs.Stored.{IsStored, OpensInCalls, ReopensJournal, StoresWrite}
 use Rattle.bayou_server.specs.Writes.{Writes}
@@ -29,7 +29,7 @@ pub record WritesAt {D : Type 0} (d : Ghosts D) (old : ServerState D) (tag : Tag
 
 -- the same of a reopening
 pub record ReopensAt {D : Type 0} (d : Ghosts D) (old : ServerState D) (answer : Result Reopened ReopenFault) (new : ServerState D) : Type 0 where
-  pub reopens : Reopens old.core answer new.core
+  pub reopens : ReopensAll old.core old.taking answer new.core
   pub sound : IsSoundServer old.core × IsSoundServer new.core
   pub opens : ReopensJournal d old answer new
   pub stored : d.is_modelled → OnOk answer (IsStored d new)
@@ -49,7 +49,7 @@ desk_steps begun = record {
   list = λ paid. None;
   reads = λ paid need key answer. InSome begun (λ core. Reads core need key answer);
   writes = λ paid tag need program answer then. DeskWrites begun paid tag need program answer then;
-  reopens = λ paid answer then. BySome begun (λ old new. Reopens old answer new) × (then ≡ paid);
+  reopens = λ paid answer then. BySome begun (λ old new. ReopensSome old answer new) × (then ≡ paid);
 }
 
 -- how a node takes Writes

@@ -6,39 +6,21 @@ use Rattle.bayou_server.specs.declared.answer.Written.{Written}
 use Rattle.bayou_server.specs.declared.answer.Written.TheVariants as written
 use Rattle.bayou_server.specs.declared.fault.Behind.{Behind}
 use Rattle.bayou_server.specs.declared.fault.ReopenFault.{ReopenFault}
-use Rattle.bayou_server.specs.declared.fault.ReopenFault.TheVariants as reopening
 use Rattle.bayou_server.specs.declared.fault.WriteFault.{WriteFault}
-use Rattle.bayou_server.specs.declared.fault.WriteFault.TheVariants as writing
+use Rattle.bayou_server.specs.Faults.{reopen_refusal, write_refusal}
 use Rattle.bayou_wire.specs.declared.frame.Frame.{Frame}
 use Rattle.bayou_wire.specs.declared.frame.Frame.TheVariants as frames
-use Rattle.bayou_wire.specs.declared.frame.Refusal.{Refusal}
-use Rattle.bayou_wire.specs.declared.frame.Refusal.TheVariants as refusals
+use Rattle.bayou_base.specs.declared.refusal.Refusal.TheVariants as refusals
 
 abbrev pub read_reply : Result Seen Behind → Frame
 read_reply (Ok seen) = frames.Seen seen
 read_reply (Err behind) = frames.Refused (refusals.Behind behind.vector)
-
-abbrev pub write_refusal : WriteFault → Refusal
-write_refusal writing.TagUsed = refusals.TagUsed
-write_refusal writing.Down = refusals.Down
-write_refusal (writing.Behind vector) = refusals.Behind vector
-write_refusal writing.LogFull = refusals.LogFull
-write_refusal writing.OutOfMemory = refusals.OutOfMemory
-write_refusal writing.Journal = refusals.Journal
 
 -- of a Write that was made before its first answer is told again
 abbrev pub write_reply : Result Written WriteFault → Frame
 write_reply (Ok (written.New accepted)) = frames.Accepted accepted
 write_reply (Ok (written.Known accepted)) = frames.Accepted accepted
 write_reply (Err fault) = frames.Refused (write_refusal fault)
-
--- whatever fault the journal has, it is told as one
-abbrev pub reopen_refusal : ReopenFault → Refusal
-reopen_refusal reopening.NotDown = refusals.NotDown
-reopen_refusal (reopening.Journal fault) = refusals.Journal
-reopen_refusal reopening.Lost = refusals.Lost
-reopen_refusal (reopening.BadRecord at) = refusals.BadRecord at
-reopen_refusal reopening.OutOfMemory = refusals.OutOfMemory
 
 abbrev pub reopen_reply : Result Reopened ReopenFault → Frame
 reopen_reply (Ok reopened) = frames.Reopened reopened.adopted

@@ -20,7 +20,7 @@ use Rattle.bayou_streams.specs.Written.{AppendsFront}
 use Rattle.bayou_wire.specs.declared.fault.DecodeFault.{DecodeFault}
 use Rattle.bayou_wire.specs.declared.frame.Frame.{Frame}
 use Rattle.bayou_wire.specs.declared.frame.Frame.TheVariants as frames
-use Rattle.bayou_wire.specs.declared.frame.Refusal.TheVariants as refusals
+use Rattle.bayou_base.specs.declared.refusal.Refusal.TheVariants as refusals
 use Rattle.bayou_wire.specs.Spelling.{IsFrame}
 use Rattle.bayou_wire.specs.Stream.{IsFaulty, IsPartial, spelling, spellings}
 

@@ -6,7 +6,7 @@ ghost use Rattle.bayou_net.specs.Serving.{ServeEnds};
 ghost use Rattle.bayou_node.specs.Answers.{BySome, InSome};
 ghost use Rattle.bayou_frames.specs.Stopping.{Stops};
 ghost use Rattle.bayou_server.specs.Reads.{Reads};
-ghost use Rattle.bayou_server.specs.Reopens.{Reopens};
+ghost use Rattle.bayou_server.specs.Reopens.{ReopensSome};
 
 use crate::at_node::AtNode;
 use crate::gate::RequestGate;
@@ -30,7 +30,7 @@ impl<D: Device, L: Desks, T: Wait> Served for AtNode<'_, D, L, Desk<L>, T> {
 
     ghost writes = { DeskWrites L.begun };
 
-    ghost reopens = { λ paid answer then. BySome L.begun (λ old new. Reopens old answer new) × (then ≡ paid) };
+    ghost reopens = { λ paid answer then. BySome L.begun (λ old new. ReopensSome old answer new) × (then ≡ paid) };
 
     fn read(&mut self, need: &Vector, key: &Key) -> Result<Seen, Behind> {
         self.node.read(self.rt, need, key)

@@ -34,7 +34,6 @@ pub use halting::{Leave, serve_with_leave};
 pub use host::{Host, drop_rest, serve_connection};
 pub use listening::{ListenFault, ListenerBroken, ListenerEnded, listen, listen_on};
 pub use node::{answer_offer, pull, pull_from, serve_offer};
-pub use replying::{reopen_fault_of, write_fault_of};
 pub use served::Served;
 pub use serving::serve_on;
 pub use sockets::Sockets;

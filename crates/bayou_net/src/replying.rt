@@ -1,19 +1,18 @@
 //! What is done of one request, and the bytes of its reply.
-ghost use Rattle.std.specs.Prelude.{◌≡◌, ◌≢◌, ◌↔◌, ℕ, List, Result, Err, IfOk, IfSome, IsTrue, None, Some};
-ghost use Rattle.bayou_net.specs.Replies.{read_reply, reopen_refusal, reopen_reply, write_refusal, write_reply};
+ghost use Rattle.std.specs.Prelude.{◌≡◌, ◌≢◌, ◌↔◌, ℕ, List, Result, IfOk, IsTrue};
+ghost use Rattle.bayou_net.specs.Replies.{read_reply, reopen_reply, write_reply};
 ghost use Rattle.bayou_net.specs.Serving.{IsRequest, Serves};
 ghost use Rattle.bayou_server.specs.declared.answer.Written.{Written as WriteMade};
-ghost use Rattle.bayou_server.specs.declared.fault.ReopenFault.{ReopenFault as ReopenRefused};
 ghost use Rattle.bayou_server.specs.declared.fault.WriteFault.{WriteFault as WriteRefused};
 ghost use Rattle.bayou_wire.specs.declared.frame.Frame.TheVariants as frames;
-ghost use Rattle.bayou_wire.specs.declared.frame.Refusal.TheVariants as refusals;
+ghost use Rattle.bayou_base.specs.declared.refusal.Refusal.TheVariants as refusals;
 ghost use Rattle.bayou_wire.specs.Stream.{spelling};
 
 use crate::served::Served;
-use bayou_base::{Key, Seen, Tag, Vector};
+use bayou_base::{Key, Refusal, Seen, Tag, Vector};
 use bayou_lang::RestingProgram;
-use bayou_server::{Behind, JournalFault, ReopenFault, Reopened, WriteFault, Written};
-use bayou_wire::{Frame, Refusal, encode_frame};
+use bayou_server::{Behind, ReopenFault, Reopened, WriteFault, Written};
+use bayou_wire::{Frame, encode_frame};
 use std::alloc::{AllocError, Global};
 
 /// Whether the frame asks for something.
@@ -40,71 +39,12 @@ fn told_read(answer: Result<Seen, Behind>) -> Frame
     }
 }
 
-fn write_refused(fault: WriteFault) -> Frame
-    ensures { result ≡ write_reply (Err fault) }
-{
-    let refusal = match fault {
-        WriteFault::TagUsed => Refusal::TagUsed,
-        WriteFault::Down => Refusal::Down,
-        WriteFault::Behind(vector) => Refusal::Behind(vector),
-        WriteFault::LogFull => Refusal::LogFull,
-        WriteFault::OutOfMemory => Refusal::OutOfMemory,
-        WriteFault::Journal => Refusal::Journal,
-    };
-    Frame::Refused(refusal)
-}
-
-/// The fault of a Write that a refusal tells. None where it answers no Write.
-pub fn write_fault_of(refusal: Refusal) -> Option<WriteFault>
-    ensures told { (fault : WriteRefused) → refusal ≡ write_refusal fault → result ≡ Some fault }
-    ensures is { IfSome result (λ fault. refusal ≡ write_refusal fault) }
-{
-    match refusal {
-        Refusal::TagUsed => Some(WriteFault::TagUsed),
-        Refusal::Down => Some(WriteFault::Down),
-        Refusal::Behind(vector) => Some(WriteFault::Behind(vector)),
-        Refusal::LogFull => Some(WriteFault::LogFull),
-        Refusal::OutOfMemory => Some(WriteFault::OutOfMemory),
-        Refusal::Journal => Some(WriteFault::Journal),
-        Refusal::NotDown | Refusal::Lost | Refusal::BadRecord(_) => None,
-    }
-}
-
 fn told_write(answer: Result<Written, WriteFault>) -> Frame
     ensures { result ≡ write_reply answer }
 {
     match answer {
         Ok(Written::New(accepted) | Written::Known(accepted)) => Frame::Accepted(accepted),
-        Err(fault) => write_refused(fault),
-    }
-}
-
-fn reopen_refused(fault: ReopenFault) -> Frame
-    ensures { result ≡ reopen_reply (Err fault) }
-{
-    let refusal = match fault {
-        ReopenFault::NotDown => Refusal::NotDown,
-        ReopenFault::Journal(_) => Refusal::Journal,
-        ReopenFault::Lost => Refusal::Lost,
-        ReopenFault::BadRecord(at) => Refusal::BadRecord(at),
-        ReopenFault::OutOfMemory => Refusal::OutOfMemory,
-    };
-    Frame::Refused(refusal)
-}
-
-/// A fault of a reopening that a refusal tells: of a journal's faults, which are told as one, that of its device. None where it answers no
-/// reopening.
-pub fn reopen_fault_of(refusal: Refusal) -> Option<ReopenFault>
-    ensures told { (fault : ReopenRefused) → refusal ≡ reopen_refusal fault → result ≢ None }
-    ensures is { IfSome result (λ fault. refusal ≡ reopen_refusal fault) }
-{
-    match refusal {
-        Refusal::NotDown => Some(ReopenFault::NotDown),
-        Refusal::Journal => Some(ReopenFault::Journal(JournalFault::Device)),
-        Refusal::Lost => Some(ReopenFault::Lost),
-        Refusal::BadRecord(at) => Some(ReopenFault::BadRecord(at)),
-        Refusal::OutOfMemory => Some(ReopenFault::OutOfMemory),
-        Refusal::Down | Refusal::Behind(_) | Refusal::LogFull | Refusal::TagUsed => None,
+        Err(fault) => Frame::Refused(Refusal::from(fault)),
     }
 }
 
@@ -113,7 +53,7 @@ fn told_reopen(answer: Result<Reopened, ReopenFault>) -> Frame
 {
     match answer {
         Ok(reopened) => Frame::Reopened(reopened.adopted),
-        Err(fault) => reopen_refused(fault),
+        Err(fault) => Frame::Refused(Refusal::from(fault)),
     }
 }
 

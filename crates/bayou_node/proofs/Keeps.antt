@@ -1,10 +1,10 @@
 -- No step of a server takes away a Write that it held.
-use Rattle.std.proofs.Common.{◌≡◌, ℕ, List, [], ◌∷◌, Option, None, Some, Result, Ok, Err, ap, sym, ◌∙◌, append-nil}
+use Rattle.std.proofs.Common.{◌≡◌, ℕ, inl, inr, List, [], ◌∷◌, ◌++◌, Option, None, Some, Result, Ok, Err, ap, sym, ◌∙◌, subst, append-nil, append_assoc}
 use Rattle.bayou_base.specs.declared.tag.Tag.{Tag}
 use Rattle.bayou_base.specs.declared.wid.Wid.{Wid}
 use Rattle.bayou_lang.specs.declared.program.Program.{Program}
 use Rattle.bayou_lang.specs.declared.write.Write.{Write}
-use Rattle.bayou_node.specs.Books.{StillHolds}
+use Rattle.bayou_node.specs.Books.{Begun, IsServerOf, StillHolds}
 use Rattle.bayou_server.specs.declared.answer.Reopened.{Reopened}
 use Rattle.bayou_server.specs.declared.answer.Took.{Took}
 use Rattle.bayou_server.specs.declared.answer.Took.TheVariants.{New, Had}
@@ -16,7 +16,8 @@ use Rattle.bayou_server.specs.declared.fault.TakeFault.{TakeFault}
 use Rattle.bayou_server.specs.declared.fault.TakeFault.TheVariants as taking
 use Rattle.bayou_server.specs.declared.fault.WriteFault.{WriteFault}
 use Rattle.bayou_server.specs.declared.fault.WriteFault.TheVariants.{TagUsed, Down, Behind, LogFull, OutOfMemory, Journal}
-use Rattle.bayou_server.specs.Reopens.{Reopens}
+use Rattle.bayou_server.specs.Laws.Several.{with_all-is}
+use Rattle.bayou_server.specs.Reopens.{Reopens, ReopensAll}
 use Rattle.bayou_server.specs.Server.{Core}
 use Rattle.bayou_server.specs.Takes.{Takes}
 use Rattle.bayou_server.specs.Writes.{Writes}
@@ -56,11 +57,31 @@ recovered : (old : Core) (adopted : Option Wid) (new : Core) → Reopens old (Ok
 recovered old None new is = same old new (ap (λ (core : Core). core.held) is.1)
 recovered old (Some wid) new is = (is.0 ∷ [], ap (λ (core : Core). core.held) is.3)
 
-pub reopening_keeps : (old : Core) (result : Result Reopened ReopenFault) (new : Core)
-    → Reopens old result new → StillHolds old new
-reopening_keeps old (Ok reopened) new is = recovered old reopened.adopted new is
-reopening_keeps old (Err reopening.NotDown) new is = unchanged old new is.1
-reopening_keeps old (Err (reopening.Journal fault)) new is = unchanged old new is.1
-reopening_keeps old (Err reopening.Lost) new is = unchanged old new is.1
-reopening_keeps old (Err (reopening.BadRecord at)) new is = unchanged old new is.2
-reopening_keeps old (Err reopening.OutOfMemory) new is = unchanged old new is.1
+pub reopening_keeps : (old : Core) (taking : List Write) (result : Result Reopened ReopenFault) (new : Core)
+    → ReopensAll old taking result new → StillHolds old new
+reopening_keeps old taking (Ok reopened) new (inl is) = recovered old reopened.adopted new is
+reopening_keeps old taking (Ok reopened) new (inr is) =
+    let more = is.front ++ is.last ∷ [] in
+    let first : Core = record old { held = old.held ++ is.doubt ∷ []; tags = old.tags ++ old.doubt_tag ∷ []; doubt = None; doubt_tag = None } in
+    (is.doubt ∷ more, ap (λ (core : Core). core.held) (is.holds ∙ with_all-is first more) ∙ append_assoc old.held (is.doubt ∷ []) more)
+reopening_keeps old taking (Err reopening.NotDown) new is = unchanged old new is.1
+reopening_keeps old taking (Err (reopening.Journal fault)) new is = unchanged old new is.1
+reopening_keeps old taking (Err reopening.Lost) new is = unchanged old new is.1
+reopening_keeps old taking (Err (reopening.BadRecord at)) new is = unchanged old new is.2
+reopening_keeps old taking (Err reopening.OutOfMemory) new is = unchanged old new is.1
+
+-- it is the same server
+recovered_server : (begun : Begun) (old : Core) (adopted : Option Wid) (new : Core) → Reopens old (Ok (record { adopted = adopted })) new → IsServerOf begun old → IsServerOf begun new
+recovered_server begun old None new is before = subst (IsServerOf begun) (sym is.1) (record { whose = before.whose; among = before.among; limit = before.limit })
+recovered_server begun old (Some wid) new is before = subst (IsServerOf begun) (sym is.3) (record { whose = before.whose; among = before.among; limit = before.limit })
+
+pub reopening_server : (begun : Begun) (old : Core) (taking : List Write) (result : Result Reopened ReopenFault) (new : Core) → ReopensAll old taking result new → IsServerOf begun old → IsServerOf begun new
+reopening_server begun old taking (Ok reopened) new (inl is) before = recovered_server begun old reopened.adopted new is before
+reopening_server begun old taking (Ok reopened) new (inr is) before =
+    let first : Core = record old { held = old.held ++ is.doubt ∷ []; tags = old.tags ++ old.doubt_tag ∷ []; doubt = None; doubt_tag = None } in
+    subst (IsServerOf begun) (sym (is.holds ∙ with_all-is first (is.front ++ is.last ∷ []))) (record { whose = before.whose; among = before.among; limit = before.limit })
+reopening_server begun old taking (Err reopening.NotDown) new is before = subst (IsServerOf begun) (sym is.1) before
+reopening_server begun old taking (Err (reopening.Journal fault)) new is before = subst (IsServerOf begun) (sym is.1) before
+reopening_server begun old taking (Err reopening.Lost) new is before = subst (IsServerOf begun) (sym is.1) before
+reopening_server begun old taking (Err (reopening.BadRecord at)) new is before = subst (IsServerOf begun) (sym is.2) before
+reopening_server begun old taking (Err reopening.OutOfMemory) new is before = subst (IsServerOf begun) (sym is.1) before

@@ -1,5 +1,4 @@
 ghost use Rattle.std.specs.Prelude.{◌≡◌, ◌≤◌, ◌<◌, ◌+◌, ◌^◌, ◌⊎◌, ℕ, [], None, Err, IfOk, MatchResult, drop, length, slice_index, sum, take};
-ghost use Rattle.std.specs.Vec.Iter.{into_iter_items};
 ghost use Rattle.bayou_base.specs.declared.limits.TheConstants.{MAX_WRITES};
 ghost use Rattle.bayou_lang.specs.Writes.{count_of, lacking_of};
 ghost use Rattle.bayou_log.specs.Listing.{listing_of};
@@ -7,11 +6,12 @@ ghost use Rattle.bayou_node.specs.Answers.{IsWritten, Pays};
 ghost use Rattle.bayou_node.specs.Books.{AreNewDesks, IsBlankOf, IsExact, StillHolds, begun_of, opened};
 ghost use Rattle.bayou_node.specs.Settles.{IsSettled};
 ghost use Rattle.bayou_server.specs.Reads.{Reads};
-ghost use Rattle.bayou_server.specs.Reopens.{Reopens, own_adopted};
+ghost use Rattle.bayou_server.specs.Reopens.{ReopensAll, own_adopted};
 ghost use Rattle.bayou_server.specs.Server.{own_count};
+ghost use Rattle.bayou_server.specs.Several.{StoresAll, TakesHeld, left_behind};
 ghost use Rattle.bayou_server.specs.Stored.{ReopensJournal, StoresTaken, StoresWrite};
 ghost use Rattle.bayou_server.specs.Takes.{Takes};
-ghost use Rattle.bayou_server.specs.TakesAll.{TakesAll, TakesAt};
+ghost use Rattle.bayou_server.specs.TakesAll.{TakesAll};
 ghost use Rattle.bayou_server.specs.Writes.{Writes, own_made};
 
 use crate::desk::{Desk, Desks};
@@ -24,10 +24,10 @@ use bayou_server::{
     Behind, ReopenFault, Reopened, Server, TakeFault, Took, TookAll, WriteFault, Written,
 };
 use std::alloc::{AllocError, Global};
+use std::collections::VecDeque;
 use std::marker::Model;
 use std::sync::atomic::AtomicUsize;
 use std::sync::ledger::{Blank, Book, Share};
-use std::vec::IntoIter;
 
 /// The value of a node's lock: a server with its books.
 #[derive(Drop)]
@@ -177,12 +177,13 @@ impl<D: Device, L: Desks> Held<D, L> {
     pub fn take_meanwhile(
         &mut self,
         alloc: Global,
-        writes: &mut IntoIter<RestingWrite>,
+        writes: &mut VecDeque<RestingWrite>,
         waiting: &AtomicUsize,
     ) -> TookAll
-        requires few { length (into_iter_items writes.old) < 2 ^ 32 }
-        ensures takes { TakesAll (TakesAt D.Device) self.old.server (into_iter_items writes.old) (into_iter_items writes.new) result self.new.server }
-        ensures some { result.refused ≡ None → (into_iter_items writes.new ≡ []) ⊎ (0 < result.taken + result.had) }
+        requires few { length writes.old.items < 2 ^ 32 }
+        ensures takes { TakesAll TakesHeld self.old.server.core writes.old.items (left_behind result.refused self.new.server.taking writes.new.items) result self.new.server.core }
+        ensures stores { StoresAll D.Device self.old.server result.refused self.new.server }
+        ensures some { result.refused ≡ None → (writes.new.items ≡ []) ⊎ (0 < result.taken + result.had) }
         ensures others { (self.new.stored ≡ self.old.stored) × (self.new.accepted ≡ self.old.accepted) × (self.new.adopted ≡ self.old.adopted) }
         ensures keeps { StillHolds self.old.server.core self.new.server.core }
         ensures exact { IsExact L.begun self.old × IsExact L.begun self.new }
@@ -190,9 +191,9 @@ impl<D: Device, L: Desks> Held<D, L> {
         self.server.take_meanwhile(alloc, writes, waiting)
     }
 
-    /// As [`Server::reopen`]. A Write of the server's own that is adopted is counted.
+    /// As [`Server::reopen`]. A Write of the server's own that is adopted is counted: of several none is its own.
     pub fn reopen(&mut self, alloc: Global) -> Result<Reopened, ReopenFault>
-        ensures reopens { Reopens self.old.server.core result self.new.server.core }
+        ensures reopens { ReopensAll self.old.server.core self.old.server.taking result self.new.server.core }
         ensures opens { ReopensJournal D.Device self.old.server result self.new.server }
         ensures counts { MatchResult result
             (λ reopened. self.new.adopted ≡ self.old.adopted + own_adopted L.begun.server reopened.adopted)

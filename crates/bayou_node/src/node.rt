@@ -8,7 +8,7 @@ ghost use Rattle.bayou_node.specs.Answers.{BySome, InSome, IsWritten, Pays, Take
 ghost use Rattle.bayou_node.specs.Books.{AreNewDesks, IsBlankOf, begun_of};
 ghost use Rattle.bayou_node.specs.Settles.{IsNodeSettled};
 ghost use Rattle.bayou_server.specs.Reads.{Reads};
-ghost use Rattle.bayou_server.specs.Reopens.{Reopens};
+ghost use Rattle.bayou_server.specs.Reopens.{ReopensSome};
 ghost use Rattle.bayou_server.specs.Takes.{Takes};
 ghost use Rattle.bayou_server.specs.Writes.{Writes};
 
@@ -23,6 +23,7 @@ use bayou_server::{
     Behind, ReopenFault, Reopened, Server, TakeFault, Took, TookAll, WriteFault, Written,
 };
 use std::alloc::{AllocError, Global};
+use std::collections::VecDeque;
 use std::marker::Model;
 use std::sync::atomic::{AtomicUsize, Ordering};
 use std::sync::ledger::Blank;
@@ -148,7 +149,7 @@ impl<D: Device, L: Desks> Node<D, L> {
         self.enter(rt).take(alloc, write)
     }
 
-    /// As [`Held::take_meanwhile`], up to the last: the lock is free between a few of them and the next wherever somebody waits for it.
+    /// As [`Held::take_meanwhile`], up to the last: wherever somebody waits for the lock it is free between one piece and the next.
     pub fn take_all<R: Wait>(&self, rt: &R, alloc: Global, writes: Vec<RestingWrite>) -> TookAll
         requires few { length writes.items < 2 ^ 32 }
         ensures { (left : List Write) × TakesAllAtNode L.begun writes.items left result × (result.refused ≡ None → left ≡ []) }
@@ -158,8 +159,8 @@ impl<D: Device, L: Desks> Node<D, L> {
             had: 0,
             refused: None,
         };
-        let mut writes = writes.into_iter();
-        while writes.len() > 0 && told.refused.is_none() {
+        let mut writes = VecDeque::from(writes);
+        while !writes.is_empty() && told.refused.is_none() {
             let more = self
                 .enter(rt)
                 .take_meanwhile(alloc, &mut writes, &self.waiting);
@@ -172,7 +173,7 @@ impl<D: Device, L: Desks> Node<D, L> {
 
     /// As [`Held::reopen`].
     pub fn reopen<R: Wait>(&self, rt: &R, alloc: Global) -> Result<Reopened, ReopenFault>
-        ensures { BySome L.begun (λ old new. Reopens old result new) }
+        ensures { BySome L.begun (λ old new. ReopensSome old result new) }
     {
         self.enter(rt).reopen(alloc)
     }

@@ -5,6 +5,9 @@ use Rattle.std.specs.List.{join_with_byte}
 use Rattle.serde_json.specs.Data.{string}
 use Rattle.serde_json.specs.Written.{compact_text}
 use Rattle.bayou_audit.specs.declared.totals.Totals.{Totals}
+use Rattle.bayou_base.specs.declared.refusal.Refusal.{Refusal}
+use Rattle.bayou_base.specs.declared.refusal.Refusal.TheVariants as refusals
+use Rattle.bayou_base.specs.Refusal.{refusal_word}
 use Rattle.bayou_base.specs.declared.value.Value.{Value}
 use Rattle.bayou_base.specs.declared.value.Value.TheVariants.{Num, Text}
 use Rattle.bayou_lang.specs.declared.eval.Outcome.{Outcome}
@@ -12,12 +15,8 @@ use Rattle.bayou_lang.specs.declared.eval.Outcome.TheVariants.{Updated, Merged, 
 use Rattle.bayou_judge.specs.History.{lists_of}
 use Rattle.bayou_log.specs.declared.listing.Listed.{Listed}
 use Rattle.bayou_base.specs.declared.wid.Wid.{Wid}
-use Rattle.bayou_server.specs.declared.fault.ReopenFault.{ReopenFault}
-use Rattle.bayou_server.specs.declared.fault.ReopenFault.TheVariants as reopening
 use Rattle.bayou_server.specs.declared.fault.StartFault.{StartFault}
 use Rattle.bayou_server.specs.declared.fault.StartFault.TheVariants as starting
-use Rattle.bayou_server.specs.declared.fault.WriteFault.{WriteFault}
-use Rattle.bayou_server.specs.declared.fault.WriteFault.TheVariants as writing
 use Rattle.bayou_answers.specs.declared.answer.Answer.{Answer}
 use Rattle.bayou_answers.specs.declared.answer.Answer.TheVariants.{Done, Wrote, Read, Refused, Lost, NotAgain, Logged, Stopped, Recovered, Exchanged, Counted, Judged, Surveyed, Booked}
 use Rattle.bayou_frames.specs.declared.fault.ChannelFault.TheVariants as streams
@@ -49,21 +48,9 @@ value_text (Some (Num number)) = codes "num " ++ signed_decimal number
 value_text (Some (Text text)) = codes "text " ++ compact_text (string text)
 
 -- why an operation was refused
-abbrev pub refusal_text : ℕ → WriteFault → List ℕ
-refusal_text servers writing.TagUsed = codes "used"
-refusal_text servers writing.Down = codes "down"
-refusal_text servers (writing.Behind vector) = codes "behind at " ++ counts_text servers vector
-refusal_text servers writing.LogFull = codes "full"
-refusal_text servers writing.OutOfMemory = codes "memory"
-refusal_text servers writing.Journal = codes "journal"
-
--- why a server wasn't reopened
-abbrev pub reopening_text : ReopenFault → List ℕ
-reopening_text reopening.NotDown = codes "notdown"
-reopening_text (reopening.Journal why) = codes "journal"
-reopening_text reopening.Lost = codes "lost"
-reopening_text (reopening.BadRecord at) = codes "record"
-reopening_text reopening.OutOfMemory = codes "memory"
+abbrev pub refusal_text : ℕ → Refusal → List ℕ
+refusal_text servers (refusals.Behind vector) = codes "behind at " ++ counts_text servers vector
+refusal_text servers refusal = refusal_word refusal
 
 -- why a server wasn't started
 abbrev pub starting_text : StartFault → List ℕ
@@ -116,7 +103,7 @@ lines_text (Counted totals) = []
 abbrev pub recovery_text : Recovery → List ℕ
 recovery_text (Reopened server adopted) =
     codes "reopened " ++ (decimal server.index ++ (codes " adopted " ++ (adopted_text adopted ++ codes "\n")))
-recovery_text (NotReopened refusal) = codes "reopen refused " ++ (reopening_text refusal ++ codes "\n")
+recovery_text (NotReopened refusal) = codes "reopen refused " ++ (refusal_word refusal ++ codes "\n")
 recovery_text NotRunning = codes "reopen refused stopped\n"
 recovery_text (Restarted server holds dropped) =
     codes "restarted " ++ (decimal server.index ++ (codes " holds " ++ (decimal holds ++ (codes " dropped " ++ (decimal dropped ++ codes "\n")))))

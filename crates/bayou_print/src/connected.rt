@@ -1,5 +1,5 @@
 //! The lines of a person at a store.
-ghost use Rattle.std.specs.Prelude.{◌≡◌, ◌≤◌, IfOk, string_bytes};
+ghost use Rattle.std.specs.Prelude.{◌≡◌, ◌≤◌, IfOk, string_bytes, sum};
 ghost use Rattle.bayou_base.specs.declared.limits.TheConstants.{SERVERS};
 ghost use Rattle.bayou_print.specs.Connected.{away_text, dumped_text, listed_keys_text, row_text, seat_text, server_text};
 
@@ -21,12 +21,30 @@ pub fn away_line(alloc: Global, session: SessionId) -> Result<String, AllocError
     format!(in alloc; "{session} refused away\n")
 }
 
+/// What a server tells that it holds, and how many Writes it may hold, if it tells that.
+#[derive(Clone, Copy, Debug, PartialEq, Eq)]
+pub struct Holds {
+    pub vector: Vector,
+    pub limit: Option<u32>,
+}
+
+// How many Writes a vector counts.
+fn sum_of(vector: &Vector) -> u32
+    ensures { result ≡ sum vector.now }
+{
+    let mut sum: u32 = 0;
+    for count in vector.counts() {
+        sum += *count;
+    }
+    sum
+}
+
 /// The line of what a server holds, or that it isn't reached.
 pub fn server_line(
     alloc: Global,
     server: ServerId,
     servers: u8,
-    held: &Option<Vector>,
+    held: &Option<Holds>,
 ) -> Result<String, AllocError>
     requires { servers ≤ SERVERS }
     ensures { IfOk result (λ line. string_bytes line ≡ server_text server.index servers held.now) }
@@ -34,9 +52,15 @@ pub fn server_line(
     let server = server.index;
     match held {
         None => format!(in alloc; "server {server} away\n"),
-        Some(vector) => {
+        Some(Holds { vector, limit }) => {
             let counts = Counts { vector, servers };
-            format!(in alloc; "server {server} at {counts}\n")
+            match limit {
+                None => format!(in alloc; "server {server} at {counts}\n"),
+                Some(limit) => {
+                    let sum = sum_of(vector);
+                    format!(in alloc; "server {server} at {counts} holds {sum} of {limit}\n")
+                }
+            }
         }
     }
 }

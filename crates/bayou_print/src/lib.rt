@@ -25,7 +25,7 @@ pub mod writing;
 
 pub use book::{Entries, Holding, servers_line};
 pub use connected::{
-    LIST_LOST, REOPEN_AWAY, away_line, dumped_line, listed_keys_line, row_line, seat_line,
+    Holds, LIST_LOST, REOPEN_AWAY, away_line, dumped_line, listed_keys_line, row_line, seat_line,
     server_line,
 };
 pub use ended::Ended;

@@ -3,18 +3,18 @@ ghost use Rattle.serde_json.specs.Data.{string};
 ghost use Rattle.serde_json.specs.Written.{compact_text};
 ghost use Rattle.bayou_base.specs.declared.limits.TheConstants.{SERVERS};
 ghost use Rattle.bayou_answers.specs.declared.answer.Answer.TheVariants.{Read, Wrote};
-ghost use Rattle.bayou_print.specs.Printed.{adopted_text, counts_text, transfer_text, last_text, listed_text, pulling_text, recovery_text, refusal_text, reopening_text, settled_text, starting_text, taking_text, totals_text, value_text};
+ghost use Rattle.bayou_print.specs.Printed.{adopted_text, counts_text, transfer_text, last_text, listed_text, pulling_text, recovery_text, refusal_text, settled_text, starting_text, taking_text, totals_text, value_text};
 
 use crate::verdict::{refused_line, verdict_line};
 use bayou_answers::{Answer, Recovery, Transfer};
 use bayou_audit::Totals;
-use bayou_base::{Accepted, Key, Seen, ServerId, SessionId, Value, Vector, Wid};
+use bayou_base::{Accepted, Key, Refusal, Seen, ServerId, SessionId, Value, Vector, Wid};
 use bayou_frames::ChannelFault;
 use bayou_lang::Outcome;
 use bayou_log::Listed;
 use bayou_node::NodeSettled;
 use bayou_peer::{PullFault, Pulled};
-use bayou_server::{ReopenFault, StartFault, TakeFault, WriteFault};
+use bayou_server::{StartFault, TakeFault};
 use serde_json::Value as Json;
 use std::alloc::{AllocError, Global};
 use std::fmt;
@@ -102,33 +102,16 @@ pub(crate) fn listed_line(
 }
 
 /// Why an operation was refused.
-fn refusal_words(alloc: Global, servers: u8, refusal: &WriteFault) -> Result<String, AllocError>
+fn refusal_words(alloc: Global, servers: u8, refusal: &Refusal) -> Result<String, AllocError>
     requires { servers ≤ SERVERS }
     ensures { IfOk result (λ text. string_bytes text ≡ refusal_text servers refusal.now) }
 {
     match refusal {
-        WriteFault::TagUsed => String::from_str(alloc, "used"),
-        WriteFault::Down => String::from_str(alloc, "down"),
-        WriteFault::Behind(vector) => {
+        Refusal::Behind(vector) => {
             let counts = Counts { vector, servers };
             format!(in alloc; "behind at {counts}")
         }
-        WriteFault::LogFull => String::from_str(alloc, "full"),
-        WriteFault::OutOfMemory => String::from_str(alloc, "memory"),
-        WriteFault::Journal => String::from_str(alloc, "journal"),
-    }
-}
-
-/// Why a server wasn't reopened.
-fn reopening_word(refusal: &ReopenFault) -> &'static str
-    ensures { result.now ≡ reopening_text refusal.now }
-{
-    match refusal {
-        ReopenFault::NotDown => "notdown",
-        ReopenFault::Journal(_) => "journal",
-        ReopenFault::Lost => "lost",
-        ReopenFault::BadRecord(_) => "record",
-        ReopenFault::OutOfMemory => "memory",
+        _ => String::from_str(alloc, refusal.word()),
     }
 }
 
@@ -218,7 +201,7 @@ fn recovery_line(alloc: Global, recovery: &Recovery) -> Result<String, AllocErro
             format!(in alloc; "reopened {server} adopted {adopted}\n")
         }
         Recovery::NotReopened(refusal) => {
-            let why = reopening_word(refusal);
+            let why = refusal.word();
             format!(in alloc; "reopen refused {why}\n")
         }
         Recovery::NotRunning => String::from_str(alloc, "reopen refused stopped\n"),

@@ -4,6 +4,7 @@
 
 mod asking;
 mod formats;
+mod greetings;
 mod servers;
 mod telling;
 

@@ -1,6 +1,6 @@
 -- What a device has of sessions, behind entries that were added, and that could not be.
 use Rattle.bayou_client.specs.Operating.{Asking}
-use Rattle.std.proofs.Common.{◌≡◌, ℕ, true, false, List, [], ◌∷◌, ◌++◌, Option, None, Some, refl, sym, subst, inl, inr}
+use Rattle.std.proofs.Common.{◌≡◌, ℕ, true, false, List, [], ◌∷◌, ◌++◌, Option, Some, refl, sym, subst, inl, inr}
 use Rattle.std.specs.Prelude.{◌⊎◌, map}
 use Rattle.bayou_device.specs.declared.device.Device.{Ghosts}
 use Rattle.bayou_journal.specs.Chain.{IsBody, entry, link}
@@ -23,15 +23,15 @@ AddsWhole {D} d = (server : ℕ) (bodies : List Body) (last body : List ℕ) (ol
     → d.content new ≡ d.content old ++ entry last body → d.kept new ≡ d.content new → IsWhole d server (bodies ++ added_body body ∷ []) (link last body) new
 
 abbrev pub WholeIsHonest : {D : Type 0} → Ghosts D → Type 0
-WholeIsHonest {D} d = (server : ℕ) (bodies : List Body) (doubt : Option Body) (last : List ℕ) (device : D) → IsWhole d server bodies last device → IsHonestDevice d server bodies doubt device
+WholeIsHonest {D} d = (server : ℕ) (bodies : List Body) (doubts : List Body) (last : List ℕ) (device : D) → IsWhole d server bodies last device → IsHonestDevice d server bodies doubts device
 
 abbrev pub FailsHonestly : {D : Type 0} → Ghosts D → Type 0
 FailsHonestly {D} d = (server : ℕ) (bodies : List Body) (last body : List ℕ) (old new : D) → OnlyTears d → IsBody body → IsWhole d server bodies last old
-    → FailsToAdd d.may_leave (entry last body) (d.content old) (d.content new) → KeepsChains (d.kept old) (d.kept new) → IsHonestDevice d server bodies (Some (added_body body)) new
+    → FailsToAdd d.may_leave (entry last body) (d.content old) (d.content new) → KeepsChains (d.kept old) (d.kept new) → IsHonestDevice d server bodies (added_body body ∷ []) new
 
 abbrev pub OpensHonestly : {D : Type 0} → Ghosts D → Type 0
-OpensHonestly {D} d = (server : ℕ) (bodies : List Body) (doubt : Option Body) (old new : D) (found : Found) (last : List ℕ) → d.is_modelled
-    → IsHonestDevice d server bodies doubt old → HasOpened d server old new found last → IsHonest bodies doubt found.bodies
+OpensHonestly {D} d = (server : ℕ) (bodies : List Body) (doubts : List Body) (old new : D) (found : Found) (last : List ℕ) → d.is_modelled
+    → IsHonestDevice d server bodies doubts old → HasOpened d server old new found last → IsHonest bodies doubts found.bodies
 
 abbrev pub OpensWhole : {D : Type 0} → Ghosts D → Type 0
 OpensWhole {D} d = (server : ℕ) (old new : D) (found : Found) (last : List ℕ) → d.is_modelled → HasOpened d server old new found last → IsWhole d server found.bodies last new
@@ -71,7 +71,7 @@ pub opened : {D : Type 0} (d : Ghosts D) → KeepOne → WholeIsHonest d → Ope
     → HasAll d old all → HasRemembered d run old.device new told → AreLast (map (in_run run) all) told × HasAll d new all
 opened d one honest finds whole run all old new told modelled has remembered =
     found_these d one whole run has.0 all old.device new told modelled has.1 remembered
-    (finds KEEPER has.0 None old.device new.device remembered.found new.last modelled (honest KEEPER has.0 None old.last old.device has.2) remembered.opened)
+    (finds KEEPER has.0 [] old.device new.device remembered.found new.last modelled (honest KEEPER has.0 [] old.last old.device has.2) remembered.opened)
 
 -- ---- an entry that could not be added
 
@@ -85,11 +85,11 @@ failed {D} d one honest finds whole fails run all kept old down new told tears h
     elim old.is_down as (λ t. old.is_down ≡ t → Told d run all kept new told) [
       | true ↦ λ is_down. inl (opened d one honest finds whole run all old new told tears.modelled has (subst (λ (m : MemoryState D). HasRemembered d run m.device new told) (failing.before is_down) remembered))
       | false ↦ λ is_up. of_found
-          (finds KEEPER has.0 (Some (added_body failing.body)) down.device new.device remembered.found new.last tears.modelled
+          (finds KEEPER has.0 (added_body failing.body ∷ []) down.device new.device remembered.found new.last tears.modelled
           (fails KEEPER has.0 old.last failing.body old.device down.device tears failing.is_body has.2 (failing.left tears.modelled is_up) safe) remembered.opened)
     ] refl
   where
-    of_found : IsHonest has.0 (Some (added_body failing.body)) remembered.found.bodies → Told d run all kept new told
+    of_found : IsHonest has.0 (added_body failing.body ∷ []) remembered.found.bodies → Told d run all kept new told
     of_found (inl is) = inl (found_these d one whole run has.0 all down.device new told tears.modelled has.1 remembered is)
     of_found (inr is) = inr (found_these d one whole run (has.0 ++ added_body failing.body ∷ []) (all ++ kept ∷ []) down.device new told tears.modelled
         (zip_more (λ body k. SpellsKept body.bytes k) has.0 all (added_body failing.body) kept has.1 failing.spelled) remembered is)

@@ -12,3 +12,4 @@ pub mod Straying
 pub mod Told
 pub mod Visits
 pub mod Words
+pub mod Greeting

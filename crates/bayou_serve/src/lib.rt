@@ -13,7 +13,8 @@
 mod descriptors;
 pub mod fault;
 pub mod filling;
-pub mod hall;
+pub mod greeting;
+mod hall;
 mod keeper;
 mod lines;
 mod marking;

@@ -2,23 +2,27 @@
 ghost use Rattle.std.specs.Prelude.{◌≡◌, ◌↔◌, IfSome, IsSome, true};
 ghost use Rattle.bayou_serve.specs.Visits.{Visited};
 
+use crate::greeting::{Strangers, Way, stranger_line, way_to};
 use crate::hall::Hall;
 use crate::lines::news_line;
 use crate::marking::{Loss, Mark, lose};
 use crate::pace::Pace;
 use crate::plan::Peer;
-use crate::rollcall::{Rollcall, has_own_beyond, rest_while_starting};
+use crate::rollcall::{FirstAnswer, Rollcall, has_own_beyond, rest_while_starting};
 use crate::teller::Teller;
 use crate::visit::{Acquaintance, Outcome, Visit, outcome_of};
 use crate::waiting::{Most, Renewing, Since, Waiting};
 use bayou_base::limits::{PEER_ANSWER_MILLISECONDS, PEER_REACH_SECONDS, TICK_MILLISECONDS};
 use bayou_device::Device;
+use bayou_greeting::Stranger;
+use bayou_handshake::StoreServer;
 use bayou_net::{Sockets, pull_from};
 use bayou_node::{Desks, Node};
 use bayou_streams::{CountedChannel, Patient};
 use std::alloc::Global;
 use std::io::{Read, Write};
 use std::net::TcpStream;
+use std::random::RandomSource;
 use std::sync::Wait;
 use std::thread;
 use std::time::{Clock, Duration};
@@ -87,23 +91,56 @@ fn visit_over<'x, D: Device, L: Desks, R: Read + Drop, W: Write + Drop, T: Wait 
     outcome_of(node.id(), pull_from(rt, alloc, node, &counts, &mut channel))
 }
 
-// Takes once what this peer has and the server lacks.
-fn visit<D: Device, L: Desks, T: Wait + Clock + Sockets>(
+/// What the threads of a server's peers share.
+#[derive(Drop)]
+pub(crate) struct Visiting<'a, M: Device, E> {
+    pub(crate) own: &'a StoreServer,
+    pub(crate) hall: &'a Hall,
+    pub(crate) mark: &'a Mark<M>,
+    pub(crate) teller: &'a Teller<E>,
+    pub(crate) rollcall: &'a Rollcall,
+}
+
+/// What is known of a peer.
+#[derive(Drop)]
+struct Known {
+    visits: Acquaintance,
+    strangers: Strangers,
+}
+
+// Takes once what this peer has and the server lacks, if who answers is that peer.
+fn visit<D: Device, L: Desks, M: Device, E: Write, T: Wait + Clock + RandomSource + Sockets>(
     rt: &T,
     alloc: Global,
     node: &Node<D, L>,
     peer: Peer,
-    hall: &Hall,
-) -> Outcome {
-    match reach(rt, peer) {
-        Some(stream) => {
-            let (since, pace) = (Since::now(rt), Pace::new());
-            visit_over(rt, alloc, node, hall, &since, &pace, &stream, &stream)
-        }
-        None => Outcome {
+    visiting: &Visiting<'_, M, E>,
+    known: &mut Known,
+) -> Option<Outcome> {
+    let hall = visiting.hall;
+    match way_to(rt, alloc, visiting.own, peer, hall) {
+        Way::Away => Some(Outcome {
             visit: Visit::Away,
             has_lost: false,
-        },
+        }),
+        Way::Stranger(stranger) => {
+            known.visits = Acquaintance::new();
+            if known.strangers.met(&stranger) {
+                visiting
+                    .teller
+                    .tell_made(rt, stranger_line(alloc, peer, &stranger));
+            }
+            None
+        }
+        Way::Open { stream, is_older } => {
+            if known.strangers.met_itself(is_older) {
+                visiting
+                    .teller
+                    .tell_made(rt, stranger_line(alloc, peer, &Stranger::Older));
+            }
+            let (since, pace) = (Since::now(rt), Pace::new());
+            Some(visit_over(rt, alloc, node, hall, &since, &pace, &stream, &stream))
+        }
     }
 }
 
@@ -123,32 +160,48 @@ fn heed<'a, M: Device, T: Wait>(
     None
 }
 
-// Asks the peer for the rollcall, and tells where no answer came. Where it tells that the server lost Writes of its own, that is known from then on.
+// Asks the peer for the rollcall, and tells where no answer came, or who answered in its place. Where it tells that the server lost Writes of its own,
+// that is known from then on.
 fn ask_first<D, L, M, E, T>(
     rt: &T,
     alloc: Global,
     node: &Node<D, L>,
     peer: Peer,
-    hall: &Hall,
-    mark: &Mark<M>,
-    teller: &Teller<E>,
-    rollcall: &Rollcall,
-) -> Acquaintance
+    visiting: &Visiting<'_, M, E>,
+) -> Known
 where
     D: Device,
     L: Desks,
     M: Device,
     E: Write,
-    T: Wait + Clock + Sockets,
+    T: Wait + Clock + RandomSource + Sockets,
 {
-    let mut known = Acquaintance::new();
-    let answer = has_own_beyond(rt, alloc, node, peer, hall, rollcall.since());
-    if answer.is_none()
-        && let Some(news) = known.visited(Visit::Away)
-    {
-        teller.tell_made(rt, news_line(alloc, peer, &news));
+    let mut known = Known {
+        visits: Acquaintance::new(),
+        strangers: Strangers::new(),
+    };
+    let Visiting {
+        hall,
+        mark,
+        teller,
+        rollcall,
+        ..
+    } = *visiting;
+    let answer = has_own_beyond(rt, alloc, node, peer, visiting);
+    match &answer {
+        FirstAnswer::None => {
+            if let Some(news) = known.visits.visited(Visit::Away) {
+                teller.tell_made(rt, news_line(alloc, peer, &news));
+            }
+        }
+        FirstAnswer::Stranger(stranger) => {
+            if known.strangers.met(stranger) {
+                teller.tell_made(rt, stranger_line(alloc, peer, stranger));
+            }
+        }
+        FirstAnswer::Told(_) => {}
     }
-    let has_lost = answer == Some(true);
+    let has_lost = answer.has_lost();
     let _ = heed(rt, hall, mark, has_lost);
     rollcall.answered(rt, peer.id, has_lost);
     known
@@ -173,29 +226,28 @@ pub(crate) fn keep_pulling<D, L, M, E, T>(
     node: &Node<D, L>,
     peer: Peer,
     every_seconds: u32,
-    hall: &Hall,
-    mark: &Mark<M>,
-    teller: &Teller<E>,
-    rollcall: &Rollcall,
+    visiting: &Visiting<'_, M, E>,
 )
 where
     D: Device,
     L: Desks,
     M: Device,
     E: Write,
-    T: Wait + Clock + Sockets,
+    T: Wait + Clock + RandomSource + Sockets,
 {
-    let mut known = ask_first(rt, alloc, node, peer, hall, mark, teller, rollcall);
+    let mut known = ask_first(rt, alloc, node, peer, visiting);
+    let hall = visiting.hall;
     rest_until_open(rt, hall);
     for _ in rt.forever() {
         if hall.is_over() || hall.has_strayed() {
             return;
         }
-        let Outcome { visit, has_lost } = visit(rt, alloc, node, peer, hall);
-        // What can't be marked now is marked by whoever keeps the server up, who tells it.
-        let _ = heed(rt, hall, mark, has_lost);
-        if let Some(news) = known.visited(visit) {
-            teller.tell_made(rt, news_line(alloc, peer, &news));
+        if let Some(outcome) = visit(rt, alloc, node, peer, visiting, &mut known) {
+            // What can't be marked now is marked by whoever keeps the server up, who tells it.
+            let _ = heed(rt, hall, visiting.mark, outcome.has_lost);
+            if let Some(news) = known.visits.visited(outcome.visit) {
+                visiting.teller.tell_made(rt, news_line(alloc, peer, &news));
+            }
         }
         rest(rt, hall, every_seconds);
     }

@@ -1,6 +1,8 @@
 //! How a connection is served for as long as there is patience with it.
-ghost use Rattle.bayou_serve.specs.Receiving.{ServedOver};
+ghost use Rattle.std.specs.Prelude.{◌≡◌};
+ghost use Rattle.bayou_serve.specs.Receiving.{ServedOver, first_by};
 
+use crate::greeting::receive_guest;
 use crate::hall::Hall;
 use crate::peers::is_timed;
 use crate::rooms::{Place, Rooms};
@@ -9,13 +11,16 @@ use crate::waiting::{Heard, Most, Since, Told, Waiting};
 use bayou_base::limits::{LINGER_MILLISECONDS, MAX_WAITS, PAUSE_SECONDS, TICK_MILLISECONDS};
 use bayou_device::Device;
 use bayou_frames::ChannelFault;
+use bayou_handshake::StoreServer;
 use bayou_net::{Attendant, Host, NoGate, drop_rest, serve_with_leave};
 use bayou_node::{Desk, Desks, Node};
 use bayou_streams::{CountedChannel, Patience, Patient};
-use bayou_wire::layout::KIND_OFFER;
+use bayou_wire::Known;
+use bayou_wire::layout::{KIND_HELLO, KIND_OFFER};
 use std::alloc::Global;
 use std::io::{ErrorKind, Read, Write};
 use std::net::{Shutdown, TcpStream};
+use std::random::RandomSource;
 use std::sync::Wait;
 use std::thread;
 use std::time::{Clock, Duration};
@@ -31,6 +36,9 @@ pub(crate) struct Reception<'a, D, L: Desks, C, E> {
     pub(crate) rooms: &'a Rooms,
     pub(crate) clock: &'a C,
     pub(crate) teller: &'a Teller<E>,
+    pub(crate) own: &'a StoreServer,
+    /// How many Writes it may hold.
+    pub(crate) limit: u32,
 }
 
 /// A connection that was served: the desk, and whether it ended since a stream failed, or was waited for in vain.
@@ -40,7 +48,7 @@ struct Received<L: Desks> {
     is_silent: bool,
 }
 
-// Serves the requests that come in time over these streams, whose waits end by `WouldBlock`; Writes as long as the hall gives leave.
+// Serves the requests that come in time over these streams, whose waits end by `WouldBlock`, Writes as long as the hall gives leave.
 fn serve_over<D: Device, L: Desks, C: Clock, R: Read + Drop, W: Write + Drop, T: Wait>(
     rt: &T,
     alloc: Global,
@@ -68,8 +76,30 @@ fn serve_over<D: Device, L: Desks, C: Clock, R: Read + Drop, W: Write + Drop, T:
     }
 }
 
-// Whether the first frame of the connection is an Offer, as far as its front says it that has come; nothing where none comes in time.
-fn offers_first<P: Patience, C: Clock>(clock: &C, stream: &TcpStream, patience: P) -> Option<bool> {
+/// What comes first over a connection, as far as the front of its first frame says it.
+#[derive(Clone, Copy, PartialEq, Eq)]
+enum First {
+    /// A greeting.
+    Hello,
+    /// What a peer asks.
+    Offer,
+    /// Any other request, or no front of a frame.
+    Other,
+}
+
+// What a frame of this kind is.
+fn first_of(kind: u8) -> First
+    ensures { result ≡ first_by kind }
+{
+    match kind {
+        KIND_HELLO => First::Hello,
+        KIND_OFFER => First::Offer,
+        _ => First::Other,
+    }
+}
+
+// What comes first over the connection; nothing where nothing comes in time.
+fn first_over<P: Patience, C: Clock>(clock: &C, stream: &TcpStream, patience: P) -> Option<First> {
     let mut patience = patience;
     let mut front = [0; 3];
     let mut is_begun = false;
@@ -80,7 +110,11 @@ fn offers_first<P: Patience, C: Clock>(clock: &C, stream: &TcpStream, patience: 
         match stream.peek(&mut front) {
             Ok(0) => return None,
             Ok(count) if is_begun || count == front.len() => {
-                return Some(count == front.len() && front[2] == KIND_OFFER);
+                return Some(if count == front.len() {
+                    first_of(front[2])
+                } else {
+                    First::Other
+                });
             }
             Ok(_) => {
                 is_begun = true;
@@ -93,18 +127,35 @@ fn offers_first<P: Patience, C: Clock>(clock: &C, stream: &TcpStream, patience: 
     None
 }
 
-// Whether the connection asks as a peer does, once it asks something.
-fn is_peer<'x, C: Clock>(
+// What comes first over the connection, as long as the hall waits for it.
+fn first_in_time<'x, C: Clock>(
     clock: &'x C,
     hall: &'x Hall,
     since: &'x Since,
     stream: &TcpStream,
-) -> Option<bool> {
+) -> Option<First> {
     let patience = Waiting::new(clock, hall, since, Most::Hall);
-    offers_first(clock, stream, patience)
+    first_over(clock, stream, patience)
 }
 
-impl<D: Device, L: Desks, C: Clock, E: Write> Reception<'_, D, L, C, E> {
+impl<D: Device, L: Desks, C: Clock + RandomSource, E: Write> Reception<'_, D, L, C, E> {
+    // Whether it is a peer that asks over the connection, once something is asked; nothing where nobody does in time, or who greets isn't let in.
+    fn is_peer<T: Wait>(&self, rt: &T, alloc: Global, stream: &TcpStream) -> Option<bool> {
+        let since = Since::now(self.clock);
+        match first_in_time(self.clock, self.hall, &since, stream)? {
+            First::Hello => {
+                let known = Known {
+                    vector: self.node.offer(rt),
+                    limit: self.limit,
+                    digests: None,
+                };
+                let guest = receive_guest(alloc, self.own, known, self.hall, self.clock, stream)?;
+                Some(guest.hello.from.is_some())
+            }
+            first => Some(first == First::Offer),
+        }
+    }
+
     // Serves the requests that come in time, and then says that no more replies come.
     fn serve_requests<T: Wait>(
         &self,
@@ -137,8 +188,7 @@ impl<D: Device, L: Desks, C: Clock, E: Write> Reception<'_, D, L, C, E> {
         desk: Desk<L>,
         stream: &TcpStream,
     ) -> Desk<L> {
-        let since = Since::now(self.clock);
-        let Some(is_peer) = is_peer(self.clock, self.hall, &since, stream) else {
+        let Some(is_peer) = self.is_peer(rt, alloc, stream) else {
             return desk;
         };
         let room = self.rooms.room_of(is_peer);
@@ -158,8 +208,12 @@ impl<D: Device, L: Desks, C: Clock, E: Write> Reception<'_, D, L, C, E> {
     }
 }
 
-impl<D: Device + Send + Sync, L: Desks + Send + Sync, C: Clock + Sync, E: Write + Send + Drop> Host
-    for Reception<'_, D, L, C, E> {
+impl<
+    D: Device + Send + Sync,
+    L: Desks + Send + Sync,
+    C: Clock + RandomSource + Sync,
+    E: Write + Send + Drop,
+> Host for Reception<'_, D, L, C, E> {
     type Desk = Desk<L>;
 
     fn serve<T: Wait>(&self, rt: &T, alloc: Global, desk: Desk<L>, stream: TcpStream) -> Desk<L> {
@@ -177,7 +231,7 @@ impl<D: Device + Send + Sync, L: Desks + Send + Sync, C: Clock + Sync, E: Write 
 impl<
     D: Device + Send + Sync,
     L: Desks + Send + Sync,
-    C: Clock + Sync,
+    C: Clock + RandomSource + Sync,
     E: Write + Send + Drop,
 > Attendant for Reception<'_, D, L, C, E> {
     fn pause<T: Wait>(&self, rt: &T) {

@@ -1,17 +1,20 @@
 //! How a journal that is lost is made again of what the peers have.
-ghost use Rattle.std.specs.Prelude.{◌≡◌, IfErr, IfOk, IfSome, List, None, Ok, slice_index};
+ghost use Rattle.std.specs.Prelude.{◌≡◌, IfErr, IfOk, IfSome, List, None, Ok, Result, slice_index};
 ghost use Rattle.bayou_lang.specs.Writes.{count_of};
 ghost use Rattle.bayou_lang.specs.declared.write.Write.{Write as Made};
+ghost use Rattle.bayou_peer.specs.declared.fault.PullFault.{PullFault as PullFailure};
+ghost use Rattle.bayou_restore.specs.declared.gathering.Gathered.{Gathered as Gatherer};
+ghost use Rattle.bayou_serve.specs.declared.restoring.Gathering.TheVariants.{Answered};
 ghost use Rattle.bayou_serve.specs.Choosing.{ChoosesAnswer};
 ghost use Rattle.bayou_serve.specs.Faults.{MayEndRestoring};
 ghost use Rattle.bayou_serve.specs.Remade.{IsRemade};
 ghost use Rattle.bayou_server.specs.Server.{Core};
 
 use crate::fault::{ServeFault, Unrestored};
+use crate::greeting::{Way, stranger_line, way_to};
 use crate::hall::Hall;
 use crate::lines::news_line;
 use crate::pace::Pace;
-use crate::peers::reach;
 use crate::plan::{Beginning, Peer, Plan};
 use crate::remaking::{Restored, make_again};
 use crate::starting::look_for;
@@ -21,6 +24,8 @@ use crate::waiting::{Most, Renewing, Since, Waiting};
 use bayou_base::limits::PEER_ANSWER_MILLISECONDS;
 use bayou_base::{MAX_WRITES, ServerId, Vector};
 use bayou_device::FileDevice;
+use bayou_greeting::Stranger;
+use bayou_handshake::StoreServer;
 use bayou_net::Sockets;
 use bayou_peer::{PullFault, pull_from_on};
 use bayou_restore::{Gathered, first_difference};
@@ -65,19 +70,34 @@ fn gather_over<'x, R: Read + Drop, W: Write + Drop, T: Clock>(
     }
 }
 
-// All that the peer has, or why its answer ended early; nothing where no connection comes about.
-fn gather_from<T: Clock + Sockets>(
+/// What asking a peer for all that it has came to.
+#[derive(Drop)]
+enum Gathering {
+    Away,
+    /// Who answered isn't that peer.
+    Stranger(Stranger),
+    /// All that it has, or why its answer ended early.
+    Answered(Result<Gathered, PullFault>),
+}
+
+// All that the peer has, if who answers is that peer.
+fn gather_from<T: Clock + RandomSource + Sockets>(
     rt: &T,
     alloc: Global,
     plan: &Plan,
+    own: &StoreServer,
     peer: Peer,
     hall: &Hall,
-) -> Option<Result<Gathered, PullFault>>
-    ensures { IfSome result (λ answer. IfOk answer (λ gathered. gathered.count ≡ plan.now.servers)) }
+) -> Gathering
+    ensures { (answer : Result Gatherer PullFailure) → result ≡ Answered answer → IfOk answer (λ gathered. gathered.count ≡ plan.now.servers) }
 {
-    let stream = reach(rt, peer)?;
+    let stream = match way_to(rt, alloc, own, peer, hall) {
+        Way::Away => return Gathering::Away,
+        Way::Stranger(stranger) => return Gathering::Stranger(stranger),
+        Way::Open { stream, .. } => stream,
+    };
     let (since, pace) = (Since::now(rt), Pace::new());
-    Some(gather_over(rt, alloc, plan, hall, &since, &pace, &stream, &stream))
+    Gathering::Answered(gather_over(rt, alloc, plan, hall, &since, &pace, &stream, &stream))
 }
 
 // Of two answers the one with more Writes of the server: the first, where both have as many. Under each name of it that both have they must
@@ -112,10 +132,11 @@ fn with_answer(best: Option<Answer>, more: Answer, id: ServerId) -> Result<Answe
 
 // What that peer has which has most Writes of the server, of those that are reached. Peers that are away are told. An answer that ends early
 // ends it: that peer may have had more. So do two answers with different Writes of one name of the server: nobody can say which one it gave last.
-fn gather<E: Write, T: Wait + Clock + Sockets>(
+fn gather<E: Write, T: Wait + Clock + RandomSource + Sockets>(
     rt: &T,
     alloc: Global,
     plan: &Plan,
+    own: &StoreServer,
     teller: &Teller<E>,
 ) -> Result<Gathered, ServeFault>
     ensures count { IfOk result (λ gathered. gathered.count ≡ plan.now.servers) }
@@ -124,13 +145,18 @@ fn gather<E: Write, T: Wait + Clock + Sockets>(
     let hall = Hall::new(plan.habits.connections, plan.habits.idle_seconds);
     let mut best: Option<Answer> = None;
     for peer in plan.peers.iter() {
-        match gather_from(rt, alloc, plan, *peer, &hall) {
-            None => teller.tell_made(rt, news_line(alloc, *peer, &News::Away)),
-            Some(Ok(gathered)) => {
+        match gather_from(rt, alloc, plan, own, *peer, &hall) {
+            Gathering::Away => teller.tell_made(rt, news_line(alloc, *peer, &News::Away)),
+            Gathering::Stranger(stranger) => {
+                teller.tell_made(rt, stranger_line(alloc, *peer, &stranger));
+                let why = Unrestored::BadAnswer(peer.id.index);
+                return Err(ServeFault::NotRestored(why));
+            }
+            Gathering::Answered(Ok(gathered)) => {
                 let peer = peer.id.index;
                 best = Some(with_answer(best, Answer { peer, gathered }, plan.id)?);
             }
-            Some(Err(fault)) => {
+            Gathering::Answered(Err(fault)) => {
                 teller.tell_made(rt, news_line(alloc, *peer, &News::Failed(fault)));
                 let why = Unrestored::BadAnswer(peer.id.index);
                 return Err(ServeFault::NotRestored(why));
@@ -150,6 +176,7 @@ pub(crate) fn restore_journal<E, T>(
     rt: &T,
     alloc: Global,
     plan: &Plan,
+    own: &StoreServer,
     path: &str,
     teller: &Teller<E>,
 ) -> Result<Restored, ServeFault>
@@ -160,7 +187,7 @@ where
     ensures fault { IfErr result MayEndRestoring }
 {
     look_for(rt, path, Beginning::Restore)?;
-    let gathered = gather(rt, alloc, plan, teller)?;
+    let gathered = gather(rt, alloc, plan, own, teller)?;
     let part = format!(in alloc; "{path}.part")?;
     let Ok(device) = FileDevice::open(rt, part.as_str()) else {
         return Err(ServeFault::NotRestored(Unrestored::NotOpened));

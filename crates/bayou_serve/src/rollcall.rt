@@ -1,21 +1,25 @@
 //! What the peers are asked before a server serves: whether one has Writes of the server's own, which it then lost.
-ghost use Rattle.std.specs.Prelude.{◌≡◌};
+ghost use Rattle.std.specs.Prelude.{◌≡◌, ◌↔◌, IsTrue, true};
+ghost use Rattle.bayou_serve.specs.declared.rollcall.FirstAnswer.TheVariants.{Told};
 ghost use Rattle.bayou_serve.specs.Losing.{AsksForOwn};
 
+use crate::greeting::{Way, way_to};
 use crate::hall::Hall;
-use crate::peers::reach;
+use crate::peers::Visiting;
 use crate::plan::Peer;
 use crate::waiting::{Most, Since, Waiting};
 use bayou_base::ServerId;
 use bayou_base::limits::STARTING_SECONDS;
 use bayou_device::Device;
 use bayou_frames::ChannelFault;
+use bayou_greeting::Stranger;
 use bayou_net::Sockets;
 use bayou_node::{Desks, Node};
 use bayou_peer::has_lost;
 use bayou_streams::{CountedChannel, Patient};
 use std::alloc::Global;
 use std::io::{Read, Write};
+use std::random::RandomSource;
 use std::sync::atomic::{AtomicU64, Ordering};
 use std::sync::{OnceLock, Wait};
 use std::thread;
@@ -49,18 +53,53 @@ fn asked_over<'x, D: Device, L: Desks, R: Read + Drop, W: Write + Drop, T: Wait 
     has_lost(alloc, id, own, &mut channel)
 }
 
+/// What a peer answers that is asked before the server serves.
+#[derive(Drop)]
+pub(crate) enum FirstAnswer {
+    /// It couldn't be asked, or didn't answer in time.
+    None,
+    /// Who answered isn't that peer.
+    Stranger(Stranger),
+    /// Whether it has a Write of the server's own which the server lacks.
+    Told(bool),
+}
+
+impl FirstAnswer {
+    /// Whether it told that the server lost Writes of its own.
+    pub(crate) fn has_lost(&self) -> bool
+        ensures { IsTrue result ↔ (self.now ≡ Told true) }
+    {
+        matches!(self, FirstAnswer::Told(true))
+    }
+}
+
 /// Whether the peer has a Write of this server which the server lacks; nothing where it couldn't be asked, or didn't answer before the time that a
 /// start takes since then was over. What an answer says is [`has_lost`]'s; that a peer is reached no clause can say.
-pub(crate) fn has_own_beyond<D: Device, L: Desks, T: Wait + Clock + Sockets>(
+pub(crate) fn has_own_beyond<D, L, M, E, T>(
     rt: &T,
     alloc: Global,
     node: &Node<D, L>,
     peer: Peer,
-    hall: &Hall,
-    since: &Since,
-) -> Option<bool> {
-    let stream = reach(rt, peer)?;
-    asked_over(rt, alloc, node, hall, since, &stream, &stream).ok()
+    visiting: &Visiting<'_, M, E>,
+) -> FirstAnswer
+where
+    D: Device,
+    L: Desks,
+    M: Device,
+    E: Write,
+    T: Wait + Clock + RandomSource + Sockets,
+{
+    match way_to(rt, alloc, visiting.own, peer, visiting.hall) {
+        Way::Away => FirstAnswer::None,
+        Way::Stranger(stranger) => FirstAnswer::Stranger(stranger),
+        Way::Open { stream, .. } => {
+            let (hall, since) = (visiting.hall, visiting.rollcall.since());
+            match asked_over(rt, alloc, node, hall, since, &stream, &stream) {
+                Ok(told) => FirstAnswer::Told(told),
+                Err(_) => FirstAnswer::None,
+            }
+        }
+    }
 }
 
 /// What the peers answered that were asked side by side.

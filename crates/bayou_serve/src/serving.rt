@@ -9,10 +9,11 @@ ghost use Rattle.bayou_streams.specs.Account.{TakesBytes, account};
 
 use crate::descriptors::look_for_descriptors;
 use crate::fault::ServeFault;
+use crate::greeting::store_server;
 use crate::hall::Hall;
 use crate::keeper::keep_up;
 use crate::marking::{Mark, UNMARKED, look_for_mark, lose, open_mark, put_away};
-use crate::peers::keep_pulling;
+use crate::peers::{Visiting, keep_pulling};
 use crate::plan::{Beginning, Plan};
 use crate::reception::Reception;
 use crate::restoring::restore_journal;
@@ -25,6 +26,7 @@ use crate::teller::Teller;
 use crate::watched::Extent;
 use bayou_base::limits::{DESKS_OF_A_PEER, WAITING_CONNECTIONS};
 use bayou_device::Device;
+use bayou_handshake::StoreServer;
 use bayou_net::{Door, Sockets, attend, shut};
 use bayou_node::{Desk, Desks, Node};
 use bayou_print::{held_line, serving_line, settled_line, write_text};
@@ -54,6 +56,7 @@ struct Life<'s, D, L: Desks, M: Device, E> {
     teller: &'s Teller<E>,
     rollcall: &'s Rollcall,
     rooms: &'s Rooms,
+    own: &'s StoreServer,
 }
 
 /// How a server began to serve, and where that was printed.
@@ -86,7 +89,7 @@ where
     L: Desks + Send + Sync,
     M: Device + Send,
     E: Write + Send + Drop,
-    T: Wait + Clock + Sockets + Send + Sync,
+    T: Wait + Clock + RandomSource + Sockets + Send + Sync,
 {
     let Life {
         plan,
@@ -95,14 +98,20 @@ where
         mark,
         teller,
         rollcall,
+        own,
         ..
     } = *life;
     let (limit, every) = (plan.habits.limit, plan.habits.every_seconds);
     for peer in plan.peers.iter() {
         let peer = *peer;
-        let begun = scope.spawn(move || keep_pulling(
-            rt, alloc, node, peer, every, hall, mark, teller, rollcall,
-        ));
+        let visiting = Visiting {
+            own,
+            hall,
+            mark,
+            teller,
+            rollcall,
+        };
+        let begun = scope.spawn(move || keep_pulling(rt, alloc, node, peer, every, &visiting));
         if begun.is_err() {
             rollcall.answered(rt, peer.id, false);
             teller.tell(
@@ -133,7 +142,7 @@ where
     L: Desks + Send + Sync,
     M: Device + Send,
     E: Write + Send + Drop,
-    T: Threads + Wait + Clock + Sockets + Send + Sync,
+    T: Threads + Wait + Clock + RandomSource + Sockets + Send + Sync,
     X: Drop,
     F: FnOnce() -> X + Drop,
     requires { F.IsAlwaysCallable meanwhile }
@@ -146,6 +155,8 @@ where
         hall,
         teller,
         rooms,
+        plan,
+        own,
         ..
     } = *life;
     let reception = Reception {
@@ -154,6 +165,8 @@ where
         rooms,
         clock: rt,
         teller,
+        own,
+        limit: plan.habits.limit,
     };
     let door = Door {
         host: &reception,
@@ -194,7 +207,7 @@ where
     L: Desks + Send + Sync,
     M: Device + Send,
     E: Write + Send + Drop,
-    T: Threads + Wait + Clock + Sockets + Send + Sync,
+    T: Threads + Wait + Clock + RandomSource + Sockets + Send + Sync,
     X: Drop,
     F: FnOnce() -> X + Drop,
     requires { F.IsAlwaysCallable meanwhile }
@@ -240,6 +253,7 @@ fn begin<'e, E, T>(
     rt: &T,
     alloc: Global,
     plan: &Plan,
+    own: &StoreServer,
     path: &str,
     extent: &'e Extent,
     teller: &Teller<E>,
@@ -251,7 +265,7 @@ where
 {
     let beginning = plan.habits.beginning;
     if beginning == Beginning::Restore {
-        restore_journal(rt, alloc, plan, path, teller)?;
+        restore_journal(rt, alloc, plan, own, path, teller)?;
         return start_at(rt, alloc, plan, path, Beginning::GoOn, extent);
     }
     start_at(rt, alloc, plan, path, beginning, extent)
@@ -345,7 +359,7 @@ where
     I: Read + Send + Drop,
     W: Write,
     E: Write + Send + Drop,
-    T: Threads + Wait + Clock + Files<File = File> + Sockets + Send + Sync,
+    T: Threads + Wait + Clock + Files<File = File> + RandomSource + Sockets + Send + Sync,
     ensures desks { MatchResult result (λ ended. vec_len ended.0 ≡ vec_len desks) (λ left. vec_len left ≡ vec_len desks) }
     ensures printed { IfOk result (λ lived. OnOk lived.1 ((address counts : List ℕ) × TakesBytes (account W.contents output.old) (account W.contents output.new) (serving_text life.now.plan.now.id.index address life.now.plan.now.servers counts))) }
     ensures unserved { IfOk result (λ lived. IfErr lived.1 (λ fault. IsBeforeServing fault → output.new ≡ output.old)) }
@@ -409,6 +423,7 @@ fn serve_node<L, M, I, W, E, T>(
     server: Server<Careful<'_>>,
     journal: Journal<'_>,
     plan: &Plan,
+    own: &StoreServer,
     listener: &TcpListener,
     mark: &Mark<M>,
     input: I,
@@ -422,7 +437,7 @@ where
     I: Read + Send + Drop,
     W: Write,
     E: Write + Send + Drop,
-    T: Threads + Wait + Clock + Files<File = File> + Sockets + Send + Sync,
+    T: Threads + Wait + Clock + Files<File = File> + RandomSource + Sockets + Send + Sync,
     requires blank { IsBlankOf blank L.name L.parts threads × (begun_of server.core ≡ L.begun) }
     ensures lived { OnOk result (PrintsLife plan.now.id.index plan.now.servers (account W.contents output.old) (account W.contents output.new)) }
     ensures unserved { IfErr result (λ fault. IsBeforeServing fault → output.new ≡ output.old) }
@@ -451,6 +466,7 @@ where
         teller,
         rollcall: &rollcall,
         rooms: &rooms,
+        own,
     };
     let Ok((desks, ended)) = live_begun(rt, alloc, &life, desks, copy, input, output) else {
         return Err(ServeFault::Memory);
@@ -491,6 +507,7 @@ fn serve_started<M, I, W, E, T>(
     alloc: Global,
     path: &str,
     plan: &Plan,
+    own: &StoreServer,
     started: Started<'_>,
     extent: &Extent,
     mark: &Mark<M>,
@@ -504,7 +521,7 @@ where
     I: Read + Send + Drop,
     W: Write,
     E: Write + Send + Drop,
-    T: Threads + Wait + Clock + Files<File = File> + Sockets + Send + Sync,
+    T: Threads + Wait + Clock + Files<File = File> + RandomSource + Sockets + Send + Sync,
     requires { (started.server.core.id ≡ plan.now.id.index) × (started.server.core.count ≡ plan.now.servers) × (started.server.core.limit ≡ plan.now.habits.limit) }
     ensures lived { OnOk result (PrintsLife plan.now.id.index plan.now.servers (account W.contents output.old) (account W.contents output.new)) }
     ensures unserved { IfErr result (λ fault. IsBeforeServing fault → output.new ≡ output.old) }
@@ -520,8 +537,8 @@ where
     let threads = threads_of(plan);
     let blank = Blank::new(u64::from(threads));
     serve_node::<Brand, M, I, W, E, T>(
-        rt, alloc, blank, threads, server, journal, plan, &listener, mark, input, output, teller,
-        is_open,
+        rt, alloc, blank, threads, server, journal, plan, own, &listener, mark, input, output,
+        teller, is_open,
     )
 }
 
@@ -546,11 +563,12 @@ where
     ensures unserved { IfErr result (λ fault. IsBeforeServing fault → output.new ≡ output.old) }
 {
     let beginning = plan.habits.beginning;
+    let own = store_server(plan);
     look_for_descriptors(rt, alloc)?;
     let mark_path = format!(in alloc; "{path}.mark")?;
     look_for_mark(rt, mark_path.as_str(), beginning)?;
     let extent = Extent::unknown();
-    let started = begin(rt, alloc, plan, path, &extent, teller)?;
+    let started = begin(rt, alloc, plan, &own, path, &extent, teller)?;
     let mut is_open = false;
     let ended = match open_mark(rt, alloc, mark_path.as_str(), beginning) {
         Ok(mark) => serve_started(
@@ -558,6 +576,7 @@ where
             alloc,
             path,
             plan,
+            &own,
             started,
             &extent,
             &mark,

@@ -1,5 +1,5 @@
 -- How a Write is added: the entry behind those of the Writes held, and then the Write.
-use Rattle.std.proofs.Common.{◌≡◌, ℕ, ◌≤◌, ◌<◌, List, [], ◌∷◌, ◌++◌, Option, None, Some, Result, Ok, Err, true, false, refl, sym, ◌∙◌, ap, subst}
+use Rattle.std.proofs.Common.{◌≡◌, ℕ, ◌≤◌, ◌<◌, List, [], ◌∷◌, ◌++◌, Option, None, Some, Result, Ok, Err, Bool, true, false, refl, sym, ◌∙◌, ap, subst}
 use Rattle.std.specs.Prelude.{IsErrOf, OnOk, is_err, is_some}
 use Rattle.bayou_base.specs.declared.limits.TheConstants.{MAX_WRITES}
 use Rattle.bayou_base.specs.declared.tag.Tag.{Tag}
@@ -17,7 +17,7 @@ use Rattle.bayou_tags.specs.Tags.{TagList}
 use Rattle.bayou_server.specs.declared.holding.Holding.{Holding}
 use Rattle.bayou_server.specs.declared.storing.Stored.{Stored}
 use Rattle.bayou_server.specs.declared.storing.Stored.TheVariants.{Held, InDoubt}
-use Rattle.bayou_server.specs.Inner.Fields.{BelongTogether, Stands, core_of, server_of}
+use Rattle.bayou_server.specs.Inner.Fields.{AreInDoubt, BelongTogether, Stands, core_of, server_of}
 use Rattle.bayou_server.specs.Inner.Storing.{IsHeld, Settles, StaysStored, StoresEntry}
 use Rattle.bayou_server.specs.Server.{Core, IsSoundServer, MayBeInDoubt, MayBeItsTag, ServerState, in_doubt, records, records_of}
 use Rattle.bayou_server.specs.Stored.{HasAdded, IsBodyOf, IsStored, Stores}
@@ -37,8 +37,23 @@ none_of None up = refl
 none_of (Some write) up = absurd cc
 
 -- while the server is up its journal is
-stands_up : {D : Type 0} (journal : JournalState D) (holding : Holding) (id : ℕ) → BelongTogether journal holding id → holding.doubt ≡ None → journal.is_down ≡ false
+pub stands_up : {D : Type 0} (journal : JournalState D) (holding : Holding) (id : ℕ) → BelongTogether journal holding id → holding.doubt ≡ None → journal.is_down ≡ false
 stands_up journal holding id together up = subst (λ (d : Option Write). Stands journal holding d) up together.stands
+
+-- and no Write is in doubt
+pub alone_up : {D : Type 0} (journal : JournalState D) (holding : Holding) (id : ℕ) → BelongTogether journal holding id → holding.doubt ≡ None → (holding.taking.items ≡ []) × (holding.together ≡ false)
+alone_up journal holding id together up = subst (λ (d : Option Write). AreInDoubt (core_of holding id) d holding.together holding.taking.items) up together.doubts
+
+-- the fields belong together too once no Write waits
+pub caught_up_together : {D : Type 0} (journal : JournalState D) (holding : Holding) (log : Log) (id : ℕ) → BelongTogether journal holding id → log ≡ record holding.log { waiting = 0 }
+    → BelongTogether journal (record holding { log = log }) id × (log.waiting ≡ 0)
+caught_up_together journal holding log id together is =
+    subst (λ (l : Log). BelongTogether journal (record holding { log = l }) id × (l.waiting ≡ 0)) (sym is)
+    (record { owner = together.owner; limit = together.limit; sound = together.sound; stands = by holding.doubt together.stands; doubts = together.doubts }, refl)
+  where
+    by : (doubt : Option Write) → Stands journal holding doubt → Stands journal (record holding { log = record holding.log { waiting = 0 } }) doubt
+    by None stands = stands
+    by (Some write) stands = stands
 
 -- what an append told, and what it left
 pub record Appends {D : Type 0} (d : Ghosts D) (journal new : JournalState D) (bytes : List ℕ) (result : Result (Unit {0}) AppendFault) : Type 0 where
@@ -61,11 +76,13 @@ pub record Adds {D : Type 0} (journal : JournalState D) (holding reserved : Hold
   pub same_log : reserved.log ≡ record holding.log { room = reserved.log.room }
   pub same_tags : reserved.tags ≡ record holding.tags { coming = tag; room = reserved.tags.room }
   pub same_doubt : reserved.doubt ≡ holding.doubt
+  pub same_taking : reserved.taking ≡ holding.taking
+  pub same_together : reserved.together ≡ holding.together
   pub has_room : IsReserved reserved.log.room made
   pub has_place : 0 < reserved.tags.room
 
 core_by : Log → TagList → Option Write → ℕ → Core
-core_by log tags doubt id = core_of (record { log = log; tags = tags; doubt = doubt }) id
+core_by log tags doubt id = record { id = id; count = log.count; limit = log.limit; held = log.receipts; tags = tags.tags; doubt = doubt; doubt_tag = tags.coming }
 
 -- the core, once the Write is held
 held_core : {D : Type 0} (journal : JournalState D) (holding reserved new : Holding) (id : ℕ) (tag : Option Tag) (made : Write) (bytes : List ℕ) → Adds journal holding reserved id tag made bytes → IsHeld reserved made new
@@ -140,6 +157,11 @@ settled_together {D} d journal new holding reserved after id tag made bytes (Ok 
       (sound_next (core_of holding id) made tag adds.together.sound adds.up adds.may adds.its);
   stands = subst (λ (o : Option Write). Stands new after o) (sym (settles.doubt ∙ adds.same_doubt ∙ adds.up))
       (ap (λ (j : JournalState D). j.is_down) appends.ends ∙ stands_up journal holding id adds.together adds.up);
+  doubts = subst (λ (o : Option Write). AreInDoubt (core_of after id) o after.together after.taking.items) (sym (settles.doubt ∙ adds.same_doubt ∙ adds.up))
+      (let alone = alone_up journal holding id adds.together adds.up in (
+        ap (λ t. t.items) (settles.taking ∙ adds.same_taking) ∙ alone.0,
+        settles.together ∙ adds.same_together ∙ alone.1,
+      ));
 }
 settled_together {D} d journal new holding reserved after id tag made bytes (Err reason) InDoubt adds appends settles =
     let fault = appends.fault (fault_of d journal new holding id bytes reason adds.together adds.up appends) in
@@ -148,7 +170,11 @@ settled_together {D} d journal new holding reserved after id tag made bytes (Err
       limit = subst (λ (h : Holding). h.log.limit ≤ MAX_WRITES) (sym settles) (limit_stays holding reserved adds.same_log adds.together.limit);
       sound = subst IsSoundServer (sym (doubted_core journal holding reserved after id tag made bytes adds settles))
           (sound_doubting (core_of holding id) made tag adds.together.sound adds.may adds.its);
-      stands = subst (λ (h : Holding). Stands new h h.doubt) (sym settles) (adds.has_room, adds.has_place);
+      stands = subst (λ (h : Holding). Stands new h h.doubt) (sym settles) (λ none. (adds.has_room, adds.has_place));
+      doubts = subst (λ (h : Holding). AreInDoubt (core_of h id) h.doubt h.together h.taking.items) (sym settles)
+          (let alone = alone_up journal holding id adds.together adds.up in
+          subst (λ (t : Bool). AreInDoubt (core_of (record reserved { doubt = Some made }) id) (Some made) t reserved.taking.items) (sym (adds.same_together ∙ alone.1))
+          (ap (λ t. t.items) adds.same_taking ∙ alone.0));
     }
 settled_together d journal new holding reserved after id tag made bytes (Ok done) InDoubt adds appends settles = absurd settles
 settled_together d journal new holding reserved after id tag made bytes (Err reason) Held adds appends settles = absurd settles

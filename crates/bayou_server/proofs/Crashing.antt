@@ -1,5 +1,5 @@
 -- That what a server holds is kept by each call, and what a crash leaves of that.
-use Rattle.std.proofs.Common.{◌≡◌, inl, inr, ℕ, List, Option, None, Some, Result, Ok, Err, sym, ◌∙◌, ap, subst}
+use Rattle.std.proofs.Common.{◌≡◌, inl, inr, ℕ, List, [], Option, None, Some, Result, Ok, Err, sym, ◌∙◌, ap, subst}
 use Rattle.std.specs.Prelude.{IsSome}
 use Rattle.bayou_base.specs.declared.tag.Tag.{Tag}
 use Rattle.bayou_device.specs.declared.device.Device.{Ghosts}
@@ -21,7 +21,7 @@ use Rattle.bayou_server.specs.declared.fault.TakeFault.{TakeFault}
 use Rattle.bayou_server.specs.declared.fault.TakeFault.TheVariants as taking
 use Rattle.bayou_server.specs.declared.fault.WriteFault.{WriteFault}
 use Rattle.bayou_server.specs.declared.fault.WriteFault.TheVariants as writing
-use Rattle.bayou_server.specs.Honest.{HasCrashed, IsHonestServerDevice, IsHonestServer, IsKept, IsKeptServer, IsLeft, KeepsWrites}
+use Rattle.bayou_server.specs.Honest.{HasCrashed, IsHonestServerDevice, IsHonestServer, IsKept, IsKeptServer, IsLeft, KeepsWrites, list_of}
 use Rattle.bayou_server.specs.Reopens.{Reopens}
 use Rattle.bayou_server.specs.Server.{Core, IsSoundServer, ServerState, record_in_doubt, records_of}
 use Rattle.bayou_server.specs.Stored.{HasFailed, IsUntouched, ReopensJournal, StoresTaken, StoresWrite}
@@ -31,8 +31,8 @@ use Rattle.bayou_server.proofs.Honesty.{AppendAdds, BodyOfRecord, OpensWhole, Wh
 
 -- what the journal's laws say of a crash, and of what is kept
 abbrev pub CrashedHonestly : {D : Type 0} → Ghosts D → Type 0
-CrashedHonestly {D} d = (server : ℕ) (bodies : List Body) (doubt : Option Body) (old new : D) → journals.KeepsBodies d server bodies old
-    → journals.HasCrashed d server bodies doubt old new → journals.IsHonestDevice d server bodies doubt new
+CrashedHonestly {D} d = (server : ℕ) (bodies : List Body) (doubts : List Body) (old new : D) → journals.KeepsBodies d server bodies old
+    → journals.HasCrashed d server bodies doubts old new → journals.IsHonestDevice d server bodies doubts new
 
 abbrev pub KeptAgain : Type 0
 KeptAgain = (server : ℕ) (bodies : List Body) (before after : List ℕ) → BeginsWithBodies server bodies before → KeepsChains before after → BeginsWithBodies server bodies after
@@ -50,7 +50,7 @@ pub honest_keeps : {D : Type 0} (d : Ghosts D) (server : ServerState D) → IsHo
 honest_keeps d server left = kept_of_left d server.core.id (records_of server.core) (record_in_doubt server.core) server.last server.device left
 
 pub writes_of : {D : Type 0} (d : Ghosts D) → WholeIsHonest d → (id : ℕ) (held : List Record) (doubt : Option Record) (last : List ℕ) (device : D) → IsKept d id held doubt last device → KeepsWrites d id held device
-writes_of d law id held None last device kept = record { bodies = kept.bodies; stores = kept.stores; keeps = (law id kept.bodies None last device kept.whole).kept }
+writes_of d law id held None last device kept = record { bodies = kept.bodies; stores = kept.stores; keeps = (law id kept.bodies [] last device kept.whole).kept }
 writes_of d law id held (Some doubt) last device kept = kept
 
 down_kept : {D : Type 0} (d : Ghosts D) (id : ℕ) (held : List Record) (doubt : Option Record) (last : List ℕ) (device : D) → IsSome doubt → KeepsWrites d id held device → IsKept d id held doubt last device
@@ -147,5 +147,5 @@ crashed d law id held doubt before device keeps crash =
       body = told.0;
       stores = keeps.stores;
       stores_doubt = told.1;
-      honest = law id keeps.bodies told.0 before device keeps.keeps told.2;
+      honest = law id keeps.bodies (list_of told.0) before device keeps.keeps told.2;
     }

@@ -31,7 +31,7 @@ use Rattle.bayou_server.specs.declared.fault.TakeFault.TheVariants as taking
 use Rattle.bayou_server.specs.declared.fault.WriteFault.{WriteFault}
 use Rattle.bayou_server.specs.declared.fault.WriteFault.TheVariants as writing
 use Rattle.bayou_server.specs.Faults.{open_fault}
-use Rattle.bayou_server.specs.Honest.{AreHonest, IsHonestAnswer, IsHonestServerDevice, IsHonestRefusal, IsHonestServer, IsLeft, IsWholeDevice, StoresDoubt}
+use Rattle.bayou_server.specs.Honest.{AreHonest, IsHonestAnswer, IsHonestServerDevice, IsHonestRefusal, IsHonestServer, IsLeft, IsWholeDevice, StoresDoubt, list_of}
 use Rattle.bayou_server.specs.Reopens.{Recovers, Reopens}
 use Rattle.bayou_server.specs.Server.{AreTags, Core, IsSoundServer, MayHold, ServerState, in_doubt, record_in_doubt, records, records_of}
 use Rattle.bayou_server.specs.Starts.{FailsToStart, StopsAtEntry}
@@ -47,7 +47,7 @@ use Rattle.bayou_server.proofs.Steps.{sound_adopted}
 -- ---- what the journal's laws say
 
 abbrev pub WholeIsHonest : {D : Type 0} → Ghosts D → Type 0
-WholeIsHonest {D} d = (server : ℕ) (bodies : List Body) (doubt : Option Body) (last : List ℕ) (device : D) → journals.IsWhole d server bodies last device → journals.IsHonestDevice d server bodies doubt device
+WholeIsHonest {D} d = (server : ℕ) (bodies : List Body) (doubts : List Body) (last : List ℕ) (device : D) → journals.IsWhole d server bodies last device → journals.IsHonestDevice d server bodies doubts device
 
 abbrev pub AppendAdds : {D : Type 0} → Ghosts D → Type 0
 AppendAdds {D} d = (server : ℕ) (bodies : List Body) (last body : List ℕ) (old new : D) → journals.IsWhole d server bodies last old → IsBody body
@@ -55,26 +55,26 @@ AppendAdds {D} d = (server : ℕ) (bodies : List Body) (last body : List ℕ) (o
 
 abbrev pub AppendFails : {D : Type 0} → Ghosts D → Type 0
 AppendFails {D} d = (server : ℕ) (bodies : List Body) (last body : List ℕ) (old new : D) → journals.OnlyTears d → IsBody body → journals.IsWhole d server bodies last old
-    → FailsToAdd d.may_leave (entry last body) (d.content old) (d.content new) → KeepsChains (d.kept old) (d.kept new) → journals.IsHonestDevice d server bodies (Some (added_body body)) new
+    → FailsToAdd d.may_leave (entry last body) (d.content old) (d.content new) → KeepsChains (d.kept old) (d.kept new) → journals.IsHonestDevice d server bodies (added_body body ∷ []) new
 
 abbrev pub OpensWhole : {D : Type 0} → Ghosts D → Type 0
 OpensWhole {D} d = (server : ℕ) (old new : D) (found : Found) (last : List ℕ) → d.is_modelled → HasOpened d server old new found last → journals.IsWhole d server found.bodies last new
 
 abbrev pub OpensHonestly : {D : Type 0} → Ghosts D → Type 0
-OpensHonestly {D} d = (server : ℕ) (bodies : List Body) (doubt : Option Body) (old new : D) (found : Found) (last : List ℕ) → d.is_modelled
-    → journals.IsHonestDevice d server bodies doubt old → HasOpened d server old new found last → IsHonest bodies doubt found.bodies
+OpensHonestly {D} d = (server : ℕ) (bodies : List Body) (doubts : List Body) (old new : D) (found : Found) (last : List ℕ) → d.is_modelled
+    → journals.IsHonestDevice d server bodies doubts old → HasOpened d server old new found last → IsHonest bodies doubts found.bodies
 
 abbrev pub HonestAgain : {D : Type 0} → Ghosts D → Type 0
-HonestAgain {D} d = (server : ℕ) (bodies : List Body) (doubt : Option Body) (old new : D) (found : Found) (last : List ℕ) → d.is_modelled
-    → journals.IsHonestDevice d server bodies doubt old → HasOpened d server old new found last → KeepsChains (d.kept old) (d.kept new) → journals.IsHonestDevice d server bodies doubt new
+HonestAgain {D} d = (server : ℕ) (bodies : List Body) (doubts : List Body) (old new : D) (found : Found) (last : List ℕ) → d.is_modelled
+    → journals.IsHonestDevice d server bodies doubts old → HasOpened d server old new found last → KeepsChains (d.kept old) (d.kept new) → journals.IsHonestDevice d server bodies doubts new
 
 abbrev pub Passes : {D : Type 0} → Ghosts D → Type 0
-Passes {D} d = (server : ℕ) (bodies : List Body) (doubt : Option Body) (old new : D) (fault : OpenFault) → d.is_modelled
-    → journals.IsHonestDevice d server bodies doubt old → HasRefused d server old new fault → IsPassing fault
+Passes {D} d = (server : ℕ) (bodies : List Body) (doubts : List Body) (old new : D) (fault : OpenFault) → d.is_modelled
+    → journals.IsHonestDevice d server bodies doubts old → HasRefused d server old new fault → IsPassing fault
 
 abbrev pub RefusedHonestly : {D : Type 0} → Ghosts D → Type 0
-RefusedHonestly {D} d = (server : ℕ) (bodies : List Body) (doubt : Option Body) (old new : D) (fault : OpenFault) → journals.OnlyTears d
-    → journals.IsHonestDevice d server bodies doubt old → HasRefused d server old new fault → KeepsChains (d.kept old) (d.kept new) → journals.IsHonestDevice d server bodies doubt new
+RefusedHonestly {D} d = (server : ℕ) (bodies : List Body) (doubts : List Body) (old new : D) (fault : OpenFault) → journals.OnlyTears d
+    → journals.IsHonestDevice d server bodies doubts old → HasRefused d server old new fault → KeepsChains (d.kept old) (d.kept new) → journals.IsHonestDevice d server bodies doubts new
 
 -- and what a server's law says of what stands for a record
 abbrev pub BodyOfRecord : Type 0
@@ -88,7 +88,7 @@ honest_of d law id held None last device left = record {
   body = None;
   stores = left.stores;
   stores_doubt = tt;
-  honest = law id left.bodies None last device left.whole;
+  honest = law id left.bodies [] last device left.whole;
 }
 honest_of d law id held (Some doubt) last device left = left
 
@@ -207,13 +207,13 @@ taken d adds law laws given (Err taking.Journal) old new tears sound next was ta
 
 -- ---- a device that is opened again
 
-begins : (id : ℕ) (bodies : List Body) (body : Option Body) (held : List Record) (found : List Body) → Stores id bodies held → IsHonest bodies body found → BeginsWithHeld id held found
+begins : (id : ℕ) (bodies : List Body) (body : Option Body) (held : List Record) (found : List Body) → Stores id bodies held → IsHonest bodies (list_of body) found → BeginsWithHeld id held found
 begins id bodies None held found stores same = record { front = bodies; more = []; stores = stores; split = same ∙ sym (append-nil bodies) }
 begins id bodies (Some body) held found stores (inl same) = record { front = bodies; more = []; stores = stores; split = same ∙ sym (append-nil bodies) }
 begins id bodies (Some body) held found stores (inr same) = record { front = bodies; more = body ∷ []; stores = stores; split = same }
 
 nothing_other : (core : Core) (bodies : List Body) (body : Option Body) (doubt : Write) (found : List Body) → AreTags core.id core.held core.tags → Stores core.id bodies (records_of core)
-    → StoresDoubt core.id body (Some (record { write = doubt; tag = core.doubt_tag })) → IsHonest bodies body found → HasOther core doubt found → ⊥
+    → StoresDoubt core.id body (Some (record { write = doubt; tag = core.doubt_tag })) → IsHonest bodies (list_of body) found → HasOther core doubt found → ⊥
 nothing_other core bodies None doubt found tagged stores both honest other = both
 nothing_other core bodies (Some body) doubt found tagged stores both (inl same) other = other.not_held (subst (λ (b : List Body). Stores core.id b (records_of core)) (sym same) stores)
 nothing_other core bodies (Some body) doubt found tagged stores both (inr same) other =
@@ -222,8 +222,8 @@ nothing_other core bodies (Some body) doubt found tagged stores both (inr same) 
     (both_more (IsBodyOf core.id) bodies (records_of core) body (record { write = doubt; tag = core.doubt_tag }) stores both)))
 
 found_in : {D : Type 0} (d : Ghosts D) → OpensHonestly d → {id : ℕ} {held : List Record} {doubt : Option Record} (old new : D) (bodies : List Body) (last : List ℕ) → d.is_modelled → (one : IsHonestServerDevice d id held doubt old)
-    → OpensWith d id old new bodies last → IsHonest one.bodies one.body bodies
-found_in d law {id} old new bodies last modelled one opens = law id one.bodies one.body old new (record { bodies = bodies; dropped = opens.dropped }) last modelled one.honest opens.opened
+    → OpensWith d id old new bodies last → IsHonest one.bodies (list_of one.body) bodies
+found_in d law {id} old new bodies last modelled one opens = law id one.bodies (list_of one.body) old new (record { bodies = bodies; dropped = opens.dropped }) last modelled one.honest opens.opened
 
 again : {D : Type 0} (d : Ghosts D) → HonestAgain d → {id : ℕ} {held : List Record} {doubt : Option Record} (old new : D) (bodies : List Body) (last : List ℕ) → d.is_modelled → IsHonestServerDevice d id held doubt old
     → OpensWith d id old new bodies last → KeepsChains (d.kept old) (d.kept new) → IsHonestServerDevice d id held doubt new
@@ -232,7 +232,7 @@ again d law {id} old new bodies last modelled one opens keeps = record {
   body = one.body;
   stores = one.stores;
   stores_doubt = one.stores_doubt;
-  honest = law id one.bodies one.body old new (record { bodies = bodies; dropped = opens.dropped }) last modelled one.honest opens.opened keeps;
+  honest = law id one.bodies (list_of one.body) old new (record { bodies = bodies; dropped = opens.dropped }) last modelled one.honest opens.opened keeps;
 }
 
 refused : {D : Type 0} (d : Ghosts D) → RefusedHonestly d → {id : ℕ} {held : List Record} {doubt : Option Record} (old new : D) (fault : OpenFault) → journals.OnlyTears d → IsHonestServerDevice d id held doubt old
@@ -242,7 +242,7 @@ refused d law {id} old new fault tears one told keeps = record {
   body = one.body;
   stores = one.stores;
   stores_doubt = one.stores_doubt;
-  honest = law id one.bodies one.body old new fault tears one.honest told keeps;
+  honest = law id one.bodies (list_of one.body) old new fault tears one.honest told keeps;
 }
 
 -- ---- reopenings
@@ -284,7 +284,7 @@ answers {D} d wholes law passes result old new modelled sound was reopens told =
     one = honest_of d wholes old.core.id (records_of old.core) (record_in_doubt old.core) old.last old.device was
 
     passing : (fault : OpenFault) → HasRefused d old.core.id old.device new.device fault → IsPassing fault
-    passing fault refusal = passes old.core.id one.bodies one.body old.device new.device fault modelled one.honest refusal
+    passing fault refusal = passes old.core.id one.bodies (list_of one.body) old.device new.device fault modelled one.honest refusal
 
     by : (result : Result Reopened ReopenFault) → ReopensJournal d old result new → IsHonestAnswer result
     by (Ok reopened) told = tt
@@ -295,7 +295,7 @@ answers {D} d wholes law passes result old new modelled sound was reopens told =
     by (Err (reopening.Journal OtherServer)) told = passing opening.OtherServer told
     by (Err reopening.Lost) (bodies, opens, lost) =
         lost (begins old.core.id one.bodies one.body (records_of old.core) bodies one.stores (found_in d law old.device new.device bodies new.last modelled one opens))
-    by (Err (reopening.BadRecord at)) (doubt, is, (bodies, opens, other)) =
+    by (Err (reopening.BadRecord at)) (doubt, is, (bodies, opens, other, none)) =
         nothing_other old.core one.bodies one.body doubt bodies sound.tagged one.stores
         (subst (λ (o : Option Write). StoresDoubt old.core.id one.body (in_doubt o old.core.doubt_tag)) is one.stores_doubt)
         (found_in d law old.device new.device bodies new.last modelled one opens) other
@@ -336,7 +336,7 @@ reopened_left {D} d wholes law agains refuses result old new tears sound was reo
     by (Err reopening.NotDown) steps told = as_it_was d old new steps.1 told was
     by (Err (reopening.Journal fault)) steps told = down_still steps.0 steps.1 (refused d refuses old.device new.device (open_fault fault) tears one told keeps)
     by (Err reopening.Lost) steps (bodies, opens, lost) = down_still steps.0 steps.1 (opened bodies opens)
-    by (Err (reopening.BadRecord at)) steps (doubt, is, (bodies, opens, other)) = down_still steps.0 steps.2 (opened bodies opens)
+    by (Err (reopening.BadRecord at)) steps (doubt, is, (bodies, opens, other, none)) = down_still steps.0 steps.2 (opened bodies opens)
     by (Err reopening.OutOfMemory) steps (inl told) = down_still steps.0 steps.1 (refused d refuses old.device new.device opening.OutOfMemory tears one told keeps)
     by (Err reopening.OutOfMemory) steps (inr (bodies, opens)) = down_still steps.0 steps.1 (opened bodies opens)
 
@@ -352,7 +352,7 @@ pub record Whole (core : Core) (found : List Body) : Type 0 where
   pub honest : AreHonest (records_of core) (record_in_doubt core) (records writes tags)
 
 whole_list : (core : Core) (bodies : List Body) (body : Option Body) (found : List Body) → IsSoundServer core → Stores core.id bodies (records_of core) → StoresDoubt core.id body (record_in_doubt core)
-    → IsHonest bodies body found → Whole core found
+    → IsHonest bodies (list_of body) found → Whole core found
 whole_list core bodies body found sound stores both honest = by body core.doubt refl both honest
   where
     held : (found ≡ bodies) → AreHonest (records_of core) (record_in_doubt core) (records_of core) → Whole core found
@@ -380,7 +380,7 @@ whole_list core bodies body found sound stores both honest = by body core.doubt 
           honest = subst (λ (o : Option Write). AreHonest (records_of core) (in_doubt o core.doubt_tag) (records (core.held ++ doubt ∷ []) (core.tags ++ core.doubt_tag ∷ []))) (sym is) (inr more);
         }
 
-    by : (body : Option Body) (doubt : Option Write) → core.doubt ≡ doubt → StoresDoubt core.id body (in_doubt doubt core.doubt_tag) → IsHonest bodies body found → Whole core found
+    by : (body : Option Body) (doubt : Option Write) → core.doubt ≡ doubt → StoresDoubt core.id body (in_doubt doubt core.doubt_tag) → IsHonest bodies (list_of body) found → Whole core found
     by None None is both same = held same (subst (λ (o : Option Write). AreHonest (records_of core) (in_doubt o core.doubt_tag) (records_of core)) (sym is) refl)
     by (Some b) (Some doubt) is both (inl same) = held same (subst (λ (o : Option Write). AreHonest (records_of core) (in_doubt o core.doubt_tag) (records_of core)) (sym is) (inl refl))
     by (Some b) (Some doubt) is both (inr same) = adopts b doubt is both same
@@ -407,7 +407,7 @@ start_refused {D} d law passes none core device left fault modelled sound one to
         none_refused none core.id core.count core.limit whole.writes whole.tags stops.bodies fault whole.holds whole.tagged whole.stores stops.refused
 
     by : (fault : StartFault) → FailsToStart d core.id core.count core.limit device left fault → IsHonestRefusal fault
-    by (starting.Journal fault) told = refusal_of fault (passes core.id one.bodies one.body device left (open_fault fault) modelled one.honest told)
+    by (starting.Journal fault) told = refusal_of fault (passes core.id one.bodies (list_of one.body) device left (open_fault fault) modelled one.honest told)
     by (starting.BadRecord at) told = at_entry (starting.BadRecord at) told
     by (starting.Gap at) told = at_entry (starting.Gap at) told
     by starting.LogFull told = at_entry starting.LogFull told

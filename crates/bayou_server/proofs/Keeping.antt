@@ -13,14 +13,14 @@ use Rattle.bayou_server.specs.declared.answer.Reopened.{Reopened}
 use Rattle.bayou_server.specs.declared.fault.JournalFault.TheVariants.{Device, NotAJournal, OtherServer}
 use Rattle.bayou_server.specs.declared.fault.ReopenFault.{ReopenFault}
 use Rattle.bayou_server.specs.declared.fault.ReopenFault.TheVariants as reopening
-use Rattle.bayou_server.specs.Honest.{IsLeft, LosesNothing}
+use Rattle.bayou_server.specs.Honest.{IsLeft, LosesNothing, list_of}
 use Rattle.bayou_server.specs.Server.{ServerState, records_of}
 use Rattle.bayou_server.specs.Stored.{ReopensJournal, Stores}
 use Rattle.bayou_server.proofs.Deciding.{OneRecord, one_record}
 
 abbrev pub SameDevice : {D : Type 0} → Ghosts D → Type 0
-SameDevice {D} d = (server : ℕ) (bodies : List Body) (doubt : Option Body) (device other : D) → d.content other ≡ d.content device → d.kept other ≡ d.kept device
-    → journals.IsHonestDevice d server bodies doubt device → journals.IsHonestDevice d server bodies doubt other
+SameDevice {D} d = (server : ℕ) (bodies : List Body) (doubts : List Body) (device other : D) → d.content other ≡ d.content device → d.kept other ≡ d.kept device
+    → journals.IsHonestDevice d server bodies doubts device → journals.IsHonestDevice d server bodies doubts other
 
 abbrev pub FindsKept : {D : Type 0} → Ghosts D → Type 0
 FindsKept {D} d = (server : ℕ) (bodies : List Body) (old new : D) (found : Found) (last : List ℕ) → d.is_modelled
@@ -45,7 +45,7 @@ same_left d law id held (Some doubt) last device other content kept left = recor
   body = left.body;
   stores = left.stores;
   stores_doubt = left.stores_doubt;
-  honest = law id left.bodies left.body device other content kept left.honest;
+  honest = law id left.bodies (list_of left.body) device other content kept left.honest;
 }
 
 -- records whose bodies begin with those of others begin with them

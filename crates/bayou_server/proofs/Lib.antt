@@ -1,9 +1,12 @@
 pub mod Adding
+pub mod Adopting
+pub mod Amid
 pub mod Beside
 pub mod Bodies
 pub mod Comparing
 pub mod Crashing
 pub mod Deciding
+pub mod Gathering
 pub mod Entries
 pub mod Following
 pub mod Honesty
@@ -12,3 +15,4 @@ pub mod Knowing
 pub mod Recovering
 pub mod SameWrite
 pub mod Steps
+pub mod TakingBack

@@ -1,4 +1,6 @@
--- What a journal's refusal is called by a server: this project's own.
+-- What a journal's refusal is called by a server, and what a server's own is to who asked: this project's own.
+use Rattle.bayou_base.specs.declared.refusal.Refusal.{Refusal}
+use Rattle.bayou_base.specs.declared.refusal.Refusal.TheVariants as refusals
 use Rattle.bayou_journal.specs.declared.fault.OpenFault.{OpenFault}
 use Rattle.bayou_journal.specs.declared.fault.OpenFault.TheVariants as opening
 use Rattle.bayou_server.specs.declared.fault.JournalFault.{JournalFault}
@@ -7,6 +9,8 @@ use Rattle.bayou_server.specs.declared.fault.StartFault.{StartFault}
 use Rattle.bayou_server.specs.declared.fault.StartFault.TheVariants as start
 use Rattle.bayou_server.specs.declared.fault.ReopenFault.{ReopenFault}
 use Rattle.bayou_server.specs.declared.fault.ReopenFault.TheVariants as reopen
+use Rattle.bayou_server.specs.declared.fault.WriteFault.{WriteFault}
+use Rattle.bayou_server.specs.declared.fault.WriteFault.TheVariants as writing
 
 -- the journal's own word for it
 abbrev pub open_fault : JournalFault → OpenFault
@@ -27,3 +31,21 @@ reopen_fault opening.Device = reopen.Journal Device
 reopen_fault opening.NotAJournal = reopen.Journal NotAJournal
 reopen_fault opening.OtherServer = reopen.Journal OtherServer
 reopen_fault opening.OutOfMemory = reopen.OutOfMemory
+
+-- ---- what who asked hears of it
+
+abbrev pub write_refusal : WriteFault → Refusal
+write_refusal writing.TagUsed = refusals.TagUsed
+write_refusal writing.Down = refusals.Down
+write_refusal (writing.Behind vector) = refusals.Behind vector
+write_refusal writing.LogFull = refusals.LogFull
+write_refusal writing.OutOfMemory = refusals.OutOfMemory
+write_refusal writing.Journal = refusals.Journal
+
+-- whatever fault the journal has, it is told as one
+abbrev pub reopen_refusal : ReopenFault → Refusal
+reopen_refusal reopen.NotDown = refusals.NotDown
+reopen_refusal (reopen.Journal fault) = refusals.Journal
+reopen_refusal reopen.Lost = refusals.Lost
+reopen_refusal (reopen.BadRecord at) = refusals.BadRecord at
+reopen_refusal reopen.OutOfMemory = refusals.OutOfMemory

@@ -10,7 +10,8 @@ use Rattle.bayou_server.specs.declared.fault.ReopenFault.{ReopenFault}
 use Rattle.bayou_server.specs.declared.fault.ReopenFault.TheVariants as reopening
 use Rattle.bayou_server.specs.declared.fault.StartFault.{StartFault}
 use Rattle.bayou_server.specs.declared.fault.StartFault.TheVariants as starting
-use Rattle.bayou_server.specs.Server.{ServerState, record_in_doubt, records_of}
+use Rattle.bayou_lang.specs.declared.write.Write.{Write}
+use Rattle.bayou_server.specs.Server.{Core, IsSoundServer, ServerState, record_in_doubt, records_of, with_taken}
 use Rattle.bayou_server.specs.Stored.{IsBodyOf, Stores}
 
 -- the body in doubt stands for the record of the Write in doubt, if one is
@@ -20,6 +21,11 @@ StoresDoubt id (Some body) (Some doubt) = IsBodyOf id body doubt
 StoresDoubt id None (Some doubt) = ⊥
 StoresDoubt id (Some body) None = ⊥
 
+-- a list of it alone, or of nothing
+abbrev pub list_of : Option Body → List Body
+list_of None = []
+list_of (Some body) = body ∷ []
+
 -- The device is honest for the server's Writes, with their tags: the entries of those held are kept, and no other entry goes on from them but that
 -- of the Write in doubt, if one is.
 pub record IsHonestServerDevice {D : Type 0} (d : Ghosts D) (id : ℕ) (held : List Record) (doubt : Option Record) (device : D) : Type 0 where
@@ -27,7 +33,7 @@ pub record IsHonestServerDevice {D : Type 0} (d : Ghosts D) (id : ℕ) (held : L
   pub body : Option Body
   pub stores : Stores id bodies held
   pub stores_doubt : StoresDoubt id body doubt
-  pub honest : journals.IsHonestDevice d id bodies body device
+  pub honest : journals.IsHonestDevice d id bodies (list_of body) device
 
 -- the device has the server's journal, with the Writes held and nothing else, all of it kept; its next entry stands behind that digest
 pub record IsWholeDevice {D : Type 0} (d : Ghosts D) (id : ℕ) (held : List Record) (last : List ℕ) (device : D) : Type 0 where
@@ -63,7 +69,32 @@ IsKeptServer d server = IsKept d server.core.id (records_of server.core) (record
 -- any tail. In what is kept behind the bodies of the Writes held, whatever their versions, and the tail, nothing goes on from them but
 -- a body of the Write in doubt.
 abbrev pub HasCrashed : {D : Type 0} → Ghosts D → (id : ℕ) → (held : List Record) → (doubt : Option Record) → (old new : D) → Type 0
-HasCrashed d id held doubt old new = (bodies : List Body) → Stores id bodies held → (body : Option Body) × StoresDoubt id body doubt × journals.HasCrashed d id bodies body old new
+HasCrashed d id held doubt old new = (bodies : List Body) → Stores id bodies held → (body : Option Body) × StoresDoubt id body doubt × journals.HasCrashed d id bodies (list_of body) old new
+
+-- ---- several Writes of other servers that were being stored together
+
+-- Each state between two of the Takes is sound, also with the Write in doubt that is taken there.
+abbrev pub MayTakeAll : Core → List Write → Type 0
+MayTakeAll core [] = IsSoundServer core
+MayTakeAll core (write ∷ writes) = IsSoundServer (record core { doubt = Some write; doubt_tag = None }) × MayTakeAll (with_taken core write) writes
+
+-- the list is that of what was held, and of a front of what was being taken: what is held between two of the Takes
+abbrev pub AreBetween : {A : Type 0} → (held taking : List A) → List A → Type 0
+AreBetween held [] found = found ≡ held
+AreBetween held (one ∷ taking) found = (found ≡ held) ⊎ AreBetween (held ++ one ∷ []) taking found
+
+-- The device is honest for the Writes held and for those that were being stored: the entries of those held are kept, and no other goes on
+-- from them but a front of the others.
+pub record IsHonestAmid {D : Type 0} (d : Ghosts D) (id : ℕ) (held taking : List Record) (device : D) : Type 0 where
+  pub bodies : List Body
+  pub more : List Body
+  pub stores : Stores id bodies held
+  pub stores_more : Stores id more taking
+  pub honest : journals.IsHonestDevice d id bodies more device
+
+-- it crashed as these were being stored
+abbrev pub HasCrashedAmid : {D : Type 0} → Ghosts D → (id : ℕ) → (held taking : List Record) → (old new : D) → Type 0
+HasCrashedAmid d id held taking old new = (bodies : List Body) → Stores id bodies held → (more : List Body) × Stores id more taking × journals.HasCrashed d id bodies more old new
 
 -- the list is that of what was held, or of that and of what was in doubt, if anything was
 abbrev pub AreHonest : {A : Type 0} → (held : List A) → (doubt : Option A) → List A → Type 0

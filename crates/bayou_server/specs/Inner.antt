@@ -1,4 +1,5 @@
 pub mod Fields
+pub mod Gathering
 pub mod Making
 pub mod Replaying
 pub mod Storing

@@ -5,6 +5,7 @@ pub mod Laws
 pub mod Reads
 pub mod Reopens
 pub mod Server
+pub mod Several
 pub mod Starts
 pub mod Stored
 pub mod Takes

@@ -1,5 +1,5 @@
 -- A server as its callers see it: this project's own.
-use Rattle.std.specs.Prelude.{◌≡◌, ◌<◌, ◌≤◌, ℕ, List, [], ◌∷◌, Option, None, Some, IfSome, IsSome, All, Contains, length, slice_index}
+use Rattle.std.specs.Prelude.{◌≡◌, ◌<◌, ◌≤◌, ℕ, List, [], ◌∷◌, ◌++◌, Option, None, Some, IfSome, IsSome, All, Contains, length, slice_index}
 use Rattle.std.specs.List.{AllZip}
 use Rattle.bayou_base.specs.declared.tag.Tag.{Tag}
 use Rattle.bayou_lang.specs.declared.write.Write.{Write}
@@ -30,11 +30,14 @@ pub record Holds : Type 0 where
 abbrev pub holds_of : Core → Holds
 holds_of core = record { held = core.held; tags = core.tags; doubt = core.doubt; doubt_tag = core.doubt_tag }
 
--- The core, its device, and the digest that the next entry of its journal stands behind, which counts while the server is up
+-- The core, its device, and the digest that the next entry of its journal stands behind, which counts while the server is up; and the other
+-- Writes in doubt, behind the one that the core has: those that were being stored with it, each another server's, with no tags. There are none
+-- while the server is up.
 pub record ServerState (D : Type 0) : Type 0 where
   pub core : Core
   pub device : D
   pub last : List ℕ
+  pub taking : List Write
 
 -- the server, over another device
 abbrev pub with_device : {D : Type 0} → ServerState D → D → ServerState D
@@ -57,6 +60,20 @@ in_doubt (Some write) tag = Some (record { write = write; tag = tag })
 
 abbrev pub record_in_doubt : Core → Option Record
 record_in_doubt core = in_doubt core.doubt core.doubt_tag
+
+-- the Writes of other servers, each with no tag
+abbrev pub untagged : List Write → List Record
+untagged [] = []
+untagged (write ∷ writes) = record { write = write; tag = None } ∷ untagged writes
+
+-- the server, once it holds another server's Write more
+abbrev pub with_taken : Core → Write → Core
+with_taken core write = record core { held = core.held ++ write ∷ []; tags = core.tags ++ None ∷ [] }
+
+-- and once it holds these, one after another
+abbrev pub with_all : Core → List Write → Core
+with_all core [] = core
+with_all core (write ∷ writes) = with_all (with_taken core write) writes
 
 -- no Write is in doubt
 abbrev pub IsUp : Core → Type 0

@@ -27,7 +27,7 @@ use Rattle.bayou_server.specs.declared.fault.TakeFault.TheVariants as taking
 use Rattle.bayou_server.specs.declared.fault.WriteFault.{WriteFault}
 use Rattle.bayou_server.specs.declared.fault.WriteFault.TheVariants.{TagUsed, Down, Behind, LogFull, OutOfMemory, Journal}
 use Rattle.bayou_server.specs.Faults.{open_fault}
-use Rattle.bayou_server.specs.Server.{Core, ServerState, record_in_doubt, records, records_of}
+use Rattle.bayou_server.specs.Server.{Core, ServerState, record_in_doubt, records, records_of, untagged}
 
 -- The form of the records in a journal of this version: in the first they have no tags, and before the wide version vectors have fewer
 -- counts.
@@ -143,6 +143,14 @@ pub record HasOther (core : Core) (doubt : Write) (bodies : List Body) : Type 0 
   pub not_held : ¬ Stores core.id bodies (records_of core)
   pub not_adopted : ¬ Stores core.id bodies (records_with_doubt core doubt)
 
+-- the Write in doubt with its tag, and others in doubt behind it
+abbrev pub doubts_of : Core → (doubt : Write) → (taking : List Write) → List Record
+doubts_of core doubt taking = record { write = doubt; tag = core.doubt_tag } ∷ untagged taking
+
+-- and where others are in doubt behind it, neither of what is held, of that Write and of a front of them
+abbrev pub HasNoFront : (core : Core) → (doubt : Write) → (taking : List Write) → (bodies : List Body) → Type 0
+HasNoFront core doubt taking bodies = (front behind : List Write) → taking ≡ front ++ behind → ¬ Stores core.id bodies (records_of core ++ doubts_of core doubt front)
+
 -- How the device stands after a reopening was answered, and what of its journal the answer comes from. The refusals stand in
 -- their order; want of memory may come anywhere behind the first.
 abbrev pub ReopensJournal : {D : Type 0} → Ghosts D → (old : ServerState D) → Result Reopened ReopenFault → (new : ServerState D) → Type 0
@@ -153,7 +161,7 @@ ReopensJournal d old (Err reopening.Lost) new =
     (bodies : List Body) × OpensWith d old.core.id old.device new.device bodies new.last × (¬ BeginsWithHeld old.core.id (records_of old.core) bodies)
 ReopensJournal d old (Err (reopening.BadRecord at)) new =
     (doubt : Write) × (old.core.doubt ≡ Some doubt)
-    × ((bodies : List Body) × OpensWith d old.core.id old.device new.device bodies new.last × HasOther old.core doubt bodies)
+    × ((bodies : List Body) × OpensWith d old.core.id old.device new.device bodies new.last × HasOther old.core doubt bodies × HasNoFront old.core doubt old.taking bodies)
 ReopensJournal d old (Err reopening.OutOfMemory) new =
     HasRefused d old.core.id old.device new.device opening.OutOfMemory
     ⊎ ((bodies : List Body) × OpensWith d old.core.id old.device new.device bodies new.last)

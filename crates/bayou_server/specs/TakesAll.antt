@@ -17,6 +17,7 @@ pub record TakesAt {D : Type 0} (d : Ghosts D) (old : ServerState D) (given : Wr
   pub takes : Takes old.core given answer new.core
   pub own : own_count new.core ≡ own_count old.core
   pub sound : IsSoundServer old.core × IsSoundServer new.core
+  pub others : new.taking ≡ old.taking
   pub stores : StoresTaken d old answer new
   pub stored : d.is_modelled → OnOk answer (IsStored d old → IsStored d new)
   pub safe : d.is_modelled → KeepsChains (d.kept old.device) (d.kept new.device)

@@ -82,7 +82,13 @@ impl LastHeld {
         ensures doubt { result.doubt ≡ holding.doubt }
         ensures doubt_tag { result.doubt_tag ≡ holding.tags.coming }
     {
-        let Holding { log, tags, doubt } = holding;
+        let Holding {
+            log,
+            tags,
+            doubt,
+            taking: _,
+            together: _,
+        } = holding;
         LastHeld {
             vector: log.vector(),
             writes: log.into_receipts(),

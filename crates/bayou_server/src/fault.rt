@@ -1,4 +1,4 @@
-use bayou_base::Vector;
+use bayou_base::{Refusal, Vector};
 use bayou_journal::OpenFault;
 use std::alloc::AllocError;
 
@@ -163,5 +163,40 @@ impl From<AllocError> for ReopenFault {
 
     fn from(_: AllocError) -> Self {
         ReopenFault::OutOfMemory
+    }
+}
+
+impl From<WriteFault> for Refusal {
+    ghost use Rattle.std.specs.Prelude.{◌≡◌};
+    ghost use Rattle.bayou_server.specs.Faults.{write_refusal};
+
+    ghost from_gives = { λ fault refusal. refusal ≡ write_refusal fault };
+
+    fn from(fault: WriteFault) -> Self {
+        match fault {
+            WriteFault::TagUsed => Refusal::TagUsed,
+            WriteFault::Down => Refusal::Down,
+            WriteFault::Behind(vector) => Refusal::Behind(vector),
+            WriteFault::LogFull => Refusal::LogFull,
+            WriteFault::OutOfMemory => Refusal::OutOfMemory,
+            WriteFault::Journal => Refusal::Journal,
+        }
+    }
+}
+
+impl From<ReopenFault> for Refusal {
+    ghost use Rattle.std.specs.Prelude.{◌≡◌};
+    ghost use Rattle.bayou_server.specs.Faults.{reopen_refusal};
+
+    ghost from_gives = { λ fault refusal. refusal ≡ reopen_refusal fault };
+
+    fn from(fault: ReopenFault) -> Self {
+        match fault {
+            ReopenFault::NotDown => Refusal::NotDown,
+            ReopenFault::Journal(_) => Refusal::Journal,
+            ReopenFault::Lost => Refusal::Lost,
+            ReopenFault::BadRecord(at) => Refusal::BadRecord(at),
+            ReopenFault::OutOfMemory => Refusal::OutOfMemory,
+        }
     }
 }

@@ -19,9 +19,9 @@ ghost use Rattle.bayou_server.specs.declared.answer.Took.{Took};
 ghost use Rattle.bayou_server.specs.declared.answer.Written.{Written};
 ghost use Rattle.bayou_server.specs.declared.fault.TakeFault.{TakeFault};
 ghost use Rattle.bayou_server.specs.declared.fault.WriteFault.{WriteFault};
-ghost use Rattle.bayou_server.specs.Honest.{AreHonest, HasCrashed, IsHonestAnswer, IsHonestServerDevice, IsHonestRefusal, IsHonestServer, IsKept, IsKeptServer, KeepsWrites, LosesNothing};
+ghost use Rattle.bayou_server.specs.Honest.{AreBetween, AreHonest, HasCrashed, HasCrashedAmid, IsHonestAmid, IsHonestAnswer, IsHonestServerDevice, IsHonestRefusal, IsHonestServer, IsKept, IsKeptServer, KeepsWrites, LosesNothing, MayTakeAll};
 ghost use Rattle.bayou_server.specs.Reopens.{Recovers, Reopens};
-ghost use Rattle.bayou_server.specs.Server.{Core, IsSoundServer, ServerState, record_in_doubt, records_of, with_device};
+ghost use Rattle.bayou_server.specs.Server.{Core, IsSoundServer, ServerState, record_in_doubt, records_of, untagged, with_device};
 ghost use Rattle.bayou_server.specs.Starts.{FailsToStart, Starts, StartsOn, StopsAtEntry};
 ghost use Rattle.bayou_server.specs.Stored.{BeginsWithHeld, HasOther, IsBodyOf, IsStored, OpensWith, OpensWithRecords, ReopensJournal, Stores, StoresTaken, StoresWrite};
 ghost use Rattle.bayou_server.specs.Takes.{Takes};
@@ -181,6 +181,23 @@ pub fn a_crash_leaves_an_honest_device<D: Device>()
 {
     a_crash_of_a_journal::<D>();
     a_start_on_an_honest_device_is_honest::<D>();
+}
+
+/// The same as several Writes of other servers were being stored together: a start holds what was held, and a front of those, as between two
+/// of their Takes, and is over a whole device. It is refused for a device call or for memory alone.
+pub fn a_crash_amid_several_leaves_an_honest_device<D: Device>()
+    ensures honest { (id : ℕ) (held taking : List Record) (before device : D) → KeepsWrites D.Device id held before → HasCrashedAmid D.Device id held taking before device
+        → IsHonestAmid D.Device id held taking device }
+    ensures started { (core : Core) (taking : List Write) (dropped : ℕ) (device : D) (server : ServerState D) → D.is_modelled → MayTakeAll core taking
+        → IsHonestAmid D.Device core.id (records_of core) (untagged taking) device → Starts core.id core.count core.limit server.core → StartsOn D.Device device server dropped
+        → AreBetween core.held taking server.core.held × IsHonestServer D.Device server }
+    ensures refused { (core : Core) (taking : List Write) (device left : D) (fault : StartFault) → D.is_modelled → MayTakeAll core taking
+        → IsHonestAmid D.Device core.id (records_of core) (untagged taking) device → FailsToStart D.Device core.id core.count core.limit device left fault → IsHonestRefusal fault }
+{
+    a_crash_of_a_journal::<D>();
+    an_honest_device_opens_honestly::<D>();
+    a_start_on_an_honest_device_is_honest::<D>();
+    bytes_are_of_one_record();
 }
 
 /// The device of an honest server is honest, be the server up or down.

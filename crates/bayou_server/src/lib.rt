@@ -5,6 +5,7 @@
 //! tag, if any: while there is one the server is down, and else up. The Writes held are sound: each fits those before it, and
 //! the server's own say all that was held; and each has a spelling. No tag is twice, and none is beside another server's
 //! Write. The Write in doubt, the server's own or one that it was given, may be held next as it is.
+//! Behind the Write in doubt there may be others of other servers, which were stored in one piece with it.
 //! `specs/` has two relations for each call that changes something or may be refused. `Starts`, `Reads`, `Writes`, `Takes`
 //! and `Reopens` say of each answer when it comes and what core it leaves: they are the steps of the store, and no device
 //! stands in them. `StartsOn`, `FailsToStart`, `StoresWrite`, `StoresTaken` and `ReopensJournal` say how the device stands
@@ -16,7 +17,8 @@
 //! A server takes Writes that others accepted exactly where they fit, so that it holds none
 //! before one on which it rests; a taken Write leaves the count of the server's own as it was. Of each other the answer
 //! says why not, and nothing is left of it. Several that are taken together ([`Server::take_next`]) are each stored and synced in
-//! turn, and applied once; nobody sees a database that lags.
+//! turn, and applied once; nobody sees a database that lags. [`Server::take_meanwhile`] stores those that come one behind the other
+//! as one piece, by one append and one sync: where that fails, each of them is in doubt, and a reopening adopts a front of them.
 //!
 //! A Write is stored and synced before it is held, so that none is acknowledged that its journal hasn't got. Where a
 //! device call fails meanwhile, it isn't known whether the journal has it: the Write is in doubt, and the server refuses
@@ -42,9 +44,11 @@ mod making;
 mod records;
 mod reopen;
 pub mod server;
+mod settling;
 mod start;
 mod storing;
 mod taking;
+mod together;
 
 pub use answer::{LastHeld, RefusedWrite, Reopened, Stopped, Took, TookAll, Written};
 pub use fault::{Behind, JournalFault, NotStarted, ReopenFault, StartFault, TakeFault, WriteFault};

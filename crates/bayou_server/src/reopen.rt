@@ -25,7 +25,7 @@ fn is_of(stored: &Record, write: &RestingWrite, tag: Option<Tag>) -> bool
 }
 
 // Whether the body stands for the Write with this tag, or with none.
-fn stands_for(
+pub fn stands_for(
     alloc: Global,
     id: ServerId,
     version: u8,
@@ -43,7 +43,7 @@ fn stands_for(
 }
 
 // Whether the bodies begin with what is held, in its order.
-fn begins_with(
+pub fn begins_with(
     alloc: Global,
     id: ServerId,
     opened: &Opened,

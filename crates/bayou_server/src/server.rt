@@ -7,8 +7,9 @@ ghost use Rattle.bayou_lang.specs.Writes.{count_of, lacking_of};
 ghost use Rattle.bayou_log.specs.Listing.{listing_of};
 ghost use Rattle.bayou_server.specs.contracts.server.Server.{the_row};
 ghost use Rattle.bayou_server.specs.Reads.{Reads};
-ghost use Rattle.bayou_server.specs.Reopens.{Reopens, own_adopted};
+ghost use Rattle.bayou_server.specs.Reopens.{ReopensAll, own_adopted};
 ghost use Rattle.bayou_server.specs.Server.{IsSoundServer, holds_of, own_count, with_device};
+ghost use Rattle.bayou_server.specs.Several.{StoresAll, TakesHeld, left_behind};
 ghost use Rattle.bayou_server.specs.Starts.{FailsToStart, Starts, StartsOn};
 ghost use Rattle.bayou_server.specs.Stored.{IsStored, OpensInCalls, ReopensJournal, StoresTaken, StoresWrite};
 ghost use Rattle.bayou_server.specs.Takes.{Takes};
@@ -21,9 +22,11 @@ use crate::fault::{Behind, NotStarted, ReopenFault, StartFault, TakeFault, Write
 use crate::holding::Holding;
 use crate::making::{accepted, answered};
 use crate::reopen::has_doubt;
+use crate::settling::settle_several;
 use crate::start::holding_of;
 use crate::storing::{Stored, store};
-use crate::taking::{take_meanwhile, take_one, take_several};
+use crate::taking::{take_one, take_several};
+use crate::together::take_meanwhile;
 use bayou_base::{Key, Seen, ServerId, Tag, Vector, Wid};
 use bayou_device::Device;
 use bayou_journal::Journal;
@@ -31,6 +34,7 @@ use bayou_journal::laws::an_honest_device_opens_honestly;
 use bayou_lang::{RestingProgram, RestingWrite};
 use bayou_log::Listed;
 use std::alloc::{AllocError, Global};
+use std::collections::VecDeque;
 use std::marker::Model;
 use std::sync::atomic::AtomicUsize;
 use std::vec::IntoIter;
@@ -50,7 +54,7 @@ impl<D> Model for Server<D> {
 
     ghost Value = { ServerState D };
 
-    ghost view = { λ s. record { core = core_of s.holding s.id.index; device = s.journal.device; last = s.journal.last } };
+    ghost view = { λ s. record { core = core_of s.holding s.id.index; device = s.journal.device; last = s.journal.last; taking = s.holding.taking.items } };
 
     // None of the Writes held waits to be applied.
     ghost invariant = { λ s. BelongTogether s.journal s.holding s.id.index × (s.holding.log.waiting ≡ 0) };
@@ -71,6 +75,7 @@ impl<D: Device> Server<D> {
         requires count { count ≤ SERVERS }
         requires limit { limit ≤ MAX_WRITES }
         ensures starts { IfOk result (λ started. Starts id.index count limit started.0.core) }
+        ensures others { IfOk result (λ started. started.0.taking ≡ []) }
         ensures opens { MatchResult result
             (λ started. StartsOn D.Device device started.0 started.1)
             (λ refused. FailsToStart D.Device id.index count limit device refused.device refused.fault) }
@@ -135,6 +140,7 @@ impl<D: Device> Server<D> {
         ensures writes { Writes self.old.core tag need.now program.now result self.new.core }
         ensures own { own_count self.new.core ≡ own_count self.old.core + own_made result }
         ensures sound { IsSoundServer self.old.core × IsSoundServer self.new.core }
+        ensures others { self.new.taking ≡ self.old.taking }
         ensures stores { StoresWrite D.Device self.old result self.new }
         // A device that had the journal of the Writes held, and nothing else, has that of those held then.
         ensures stored { D.is_modelled → OnOk result (IsStored D.Device self.old → IsStored D.Device self.new) }
@@ -169,6 +175,7 @@ impl<D: Device> Server<D> {
         ensures takes { Takes self.old.core write result self.new.core }
         ensures own { own_count self.new.core ≡ own_count self.old.core }
         ensures sound { IsSoundServer self.old.core × IsSoundServer self.new.core }
+        ensures others { self.new.taking ≡ self.old.taking }
         ensures stores { StoresTaken D.Device self.old result self.new }
         ensures stored { D.is_modelled → OnOk result (IsStored D.Device self.old → IsStored D.Device self.new) }
         ensures safe { D.is_modelled → KeepsChains (D.kept self.old.device) (D.kept self.new.device) }
@@ -202,18 +209,21 @@ impl<D: Device> Server<D> {
         told
     }
 
-    /// As [`Server::take_next`], of all the Writes, however many they are: but where `waiting` counts somebody, no more than
-    /// [`TAKES_AT_ONCE`](bayou_base::limits::TAKES_AT_ONCE), so that whoever waits for the server waits for those alone. When somebody waits no
-    /// clause can tell.
+    /// Takes the Writes, as [`Server::take`] does, one after another, up to one that is refused: but those that come one behind the other are stored as
+    /// one piece of the journal, no longer than its longest entry, and synced together. Where `waiting` counts somebody, no more than one piece is taken,
+    /// so that whoever waits for the server waits for one sync. When somebody waits no clause can tell. Where a device call fails, all Writes of
+    /// the piece are in doubt, of which the first is the one refused.
     pub fn take_meanwhile(
         &mut self,
         alloc: Global,
-        writes: &mut IntoIter<RestingWrite>,
+        writes: &mut VecDeque<RestingWrite>,
         waiting: &AtomicUsize,
     ) -> TookAll
-        requires few { length (into_iter_items writes.old) < 2 ^ 32 }
-        ensures takes { TakesAll (TakesAt D.Device) self.old (into_iter_items writes.old) (into_iter_items writes.new) result self.new }
-        ensures some { result.refused ≡ None → (into_iter_items writes.new ≡ []) ⊎ (0 < result.taken + result.had) }
+        requires few { length writes.old.items < 2 ^ 32 }
+        ensures takes { TakesAll TakesHeld self.old.core writes.old.items (left_behind result.refused self.new.taking writes.new.items) result self.new.core }
+        ensures stores { StoresAll D.Device self.old result.refused self.new }
+        ensures sound { IsSoundServer self.old.core × IsSoundServer self.new.core }
+        ensures some { result.refused ≡ None → (writes.new.items ≡ []) ⊎ (0 < result.taken + result.had) }
     {
         let told = take_meanwhile(
             alloc,
@@ -229,11 +239,12 @@ impl<D: Device> Server<D> {
 
     /// Brings the server up again: it opens its journal again, and compares what it finds there with the Writes held. Device
     /// calls: those of the journal's opening alone. A refusal leaves the server down; what was cut of the journal stays cut.
-    /// To adopt the Write in doubt takes no memory.
+    /// To adopt the Write in doubt takes no memory, unless it was stored in a piece with others: then what is held is made anew.
     pub fn reopen(&mut self, alloc: Global) -> Result<Reopened, ReopenFault>
-        ensures reopens { Reopens self.old.core result self.new.core }
+        ensures reopens { ReopensAll self.old.core self.old.taking result self.new.core }
         ensures own { MatchResult result (λ reopened. own_count self.new.core ≡ own_count self.old.core + own_adopted self.old.core.id reopened.adopted) (λ _. own_count self.new.core ≡ own_count self.old.core) }
         ensures sound { IsSoundServer self.old.core × IsSoundServer self.new.core }
+        ensures others { MatchResult result (λ _. self.new.taking ≡ []) (λ _. self.new.taking ≡ self.old.taking) }
         ensures opens { ReopensJournal D.Device self.old result self.new }
         ensures stored { D.is_modelled → OnOk result (IsStored D.Device self.new) }
         ensures safe { D.is_modelled → KeepsChains (D.kept self.old.device) (D.kept self.new.device) }
@@ -244,6 +255,9 @@ impl<D: Device> Server<D> {
             return Err(ReopenFault::NotDown);
         }
         let opened = self.journal.reopen(alloc)?;
+        if self.holding.together {
+            return settle_several(alloc, self.id, &opened, &mut self.holding);
+        }
         let adopts = has_doubt(alloc, self.id, &opened, &self.holding)?;
         let Some(write) = self.holding.doubt.take() else {
             unreachable!();

@@ -18,6 +18,7 @@ use bayou_tags::Tags;
 use bayou_wire::Record;
 use bayou_wire::laws::bytes_are_of_one_record;
 use std::alloc::{AllocError, Global};
+use std::collections::VecDeque;
 
 // Whether the Write may be added to those of the log of the server `id`.
 fn may_follow(log: &WriteLog, id: ServerId, write: &RestingWrite) -> bool
@@ -128,6 +129,8 @@ pub fn holding_of(
         log: WriteLog::new(alloc, count, limit),
         tags: Tags::new(alloc),
         doubt: None,
+        taking: VecDeque::new(alloc),
+        together: false,
     };
     for at in 0..opened.len() {
         add_next(alloc, id, &mut holding, opened.version(at), opened.body(at))?;

@@ -59,6 +59,7 @@ pub fn store<D: Device>(
     requires may { MayBeStored (core_of holding.old id.index) write }
     requires tagged { MayBeTagged (core_of holding.old id.index) tag write }
     ensures together { BelongTogether journal.new holding.new id.index }
+    ensures others { holding.new.taking ≡ holding.old.taking }
     ensures keeps { MatchResult result
         (λ stored. Keeps (core_of holding.old id.index) tag write stored (core_of holding.new id.index))
         (λ _. core_of holding.new id.index ≡ core_of holding.old id.index) }

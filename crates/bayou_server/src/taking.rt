@@ -1,5 +1,5 @@
 //! How a server takes Writes that other servers accepted. What of the log isn't applied waits for whoever calls.
-ghost use Rattle.std.specs.Prelude.{◌≡◌, ◌+◌, ◌<◌, ◌^◌, ◌⊎◌, [], None, length};
+ghost use Rattle.std.specs.Prelude.{◌≡◌, ◌+◌, ◌⊎◌, [], None};
 ghost use Rattle.std.specs.Vec.Iter.{into_iter_items};
 ghost use Rattle.bayou_server.specs.Inner.Fields.{BelongTogether, core_of, server_of};
 ghost use Rattle.bayou_server.specs.Inner.Taking.{IsDecided, IsRefused};
@@ -11,13 +11,11 @@ use crate::fault::TakeFault;
 use crate::holding::Holding;
 use crate::storing::{Stored, store};
 use bayou_base::ServerId;
-use bayou_base::limits::TAKES_AT_ONCE;
 use bayou_device::Device;
 use bayou_journal::Journal;
 use bayou_lang::RestingWrite;
 use bayou_log::Misfit;
 use std::alloc::Global;
-use std::sync::atomic::{AtomicUsize, Ordering};
 use std::vec::IntoIter;
 
 // Why the Write, of whose name none is held, isn't added, if it may not be.
@@ -40,7 +38,11 @@ fn refusal(holding: &Holding, id: ServerId, given: &RestingWrite) -> Option<Take
 }
 
 // The answer, where it follows from what is held and in doubt. Else the Write may be added.
-fn decided(holding: &Holding, id: ServerId, given: &RestingWrite) -> Option<Result<Took, TakeFault>>
+pub fn decided(
+    holding: &Holding,
+    id: ServerId,
+    given: &RestingWrite,
+) -> Option<Result<Took, TakeFault>>
     ensures { IsDecided (core_of holding.now id.index) given.now result }
 {
     if let Some(held) = holding.log.find(given.wid()) {
@@ -108,31 +110,6 @@ pub fn take_several<D: Device>(
                 return told;
             }
         }
-    }
-    told
-}
-
-// Takes the Writes, one after another, up to one that is refused; where somebody waits, no more than a few.
-pub fn take_meanwhile<D: Device>(
-    alloc: Global,
-    journal: &mut Journal<D>,
-    holding: &mut Holding,
-    id: ServerId,
-    writes: &mut IntoIter<RestingWrite>,
-    waiting: &AtomicUsize,
-) -> TookAll
-    requires together { BelongTogether journal.old holding.old id.index }
-    requires few { length (into_iter_items writes.old) < 2 ^ 32 }
-    ensures together { BelongTogether journal.new holding.new id.index }
-    ensures takes { TakesAll (TakesAt D.Device) (server_of journal.old holding.old id.index) (into_iter_items writes.old) (into_iter_items writes.new) result (server_of journal.new holding.new id.index) }
-    ensures some { result.refused ≡ None → (into_iter_items writes.new ≡ []) ⊎ (0 < result.taken + result.had) }
-{
-    let mut told = take_several(alloc, journal, holding, id, writes, TAKES_AT_ONCE);
-    while told.refused.is_none() && writes.len() > 0 && waiting.load(Ordering::Relaxed) == 0 {
-        let more = take_several(alloc, journal, holding, id, writes, TAKES_AT_ONCE);
-        told.taken += more.taken;
-        told.had += more.had;
-        told.refused = more.refused;
     }
     told
 }

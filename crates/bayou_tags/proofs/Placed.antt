@@ -1,9 +1,9 @@
 -- What a map of places tells of tags, and what a tag that comes, or is forgotten, makes of it.
-use Rattle.std.proofs.Common.{◌≡◌, ℕ, ◌<◌, ◌≤◌, ◌⊎◌, inl, inr, Bool, true, false, cond, nat_lt, List, [], ◌∷◌, ◌++◌, length, get_or, slice_get, Option, Some, None, IfSome, Contains, ap, sym, ◌∙◌, refl, subst, arith, length-append}
+use Rattle.std.proofs.Common.{◌≡◌, ℕ, ◌+◌, ◌<◌, ◌≤◌, ◌⊎◌, inl, inr, Bool, true, false, cond, nat_lt, List, [], ◌∷◌, ◌++◌, length, take, get_or, slice_get, Option, Some, None, IfSome, Contains, ap, sym, ◌∙◌, refl, subst, arith, length-append}
 use Rattle.std.specs.BTreeMap.{is_at}
 use Rattle.std.specs.Ordering.{nat_cmp, ordering_then}
 use Rattle.std.proofs.lemmas.Bool.Decides.{nat_tests}
-use Rattle.std.proofs.lemmas.List.{get_or_append_left, get_or_default, get_or_past, get_or_push}
+use Rattle.std.proofs.lemmas.List.{get_or_append_left, get_or_default, get_or_past, get_or_push, take-append-le, take_all}
 use Rattle.std.proofs.lemmas.Cmp.{nat_cmp_total, on_total, then_total, tied_itself}
 use Rattle.std.proofs.lemmas.Map.Lookups.{exact_pairs, exact_unsigned}
 use Rattle.std.proofs.lemmas.Map.Views.{tells_apart}
@@ -70,7 +70,7 @@ ArePlaced-push_none places tags are = record {
 }
 
 -- nor does it where it is taken away again
-ArePlaced-pop_none : (places : List (Tag × ℕ)) (tags : List (Option Tag)) → ArePlaced places (tags ++ None ∷ []) → ArePlaced places tags
+pub ArePlaced-pop_none : (places : List (Tag × ℕ)) (tags : List (Option Tag)) → ArePlaced places (tags ++ None ∷ []) → ArePlaced places tags
 ArePlaced-pop_none places tags are = record {
   placed = λ tag at is. are.placed tag at (kept tags None at tag is);
   there = λ tag at is. elim (pushed tags None at tag (are.there tag at is)) as (λ _. get_or tags at None ≡ Some tag) [
@@ -184,3 +184,9 @@ pub place_before : (places : List (Tag × ℕ)) (tags : List (Option Tag)) (comi
 place_before places tags coming tag at are is within =
     slice_get-get_or tags at None within
     ∙ ap Some (sym (get_or_append_left tags (coming ∷ []) None at within) ∙ are.there tag at is)
+
+-- what is left where the last entry, which has no tag, was taken off
+pub popped : (tags new front : List (Option Tag)) (n : ℕ) → tags ≡ front ++ None ∷ [] → new ≡ take n tags → n + 1 ≡ length tags → new ≡ front
+popped tags new front n is taken size =
+    taken ∙ ap (take n) is ∙ take-append-le n front (None ∷ []) (omega (arith, size, ap length is, length-append front (None ∷ [])))
+    ∙ take_all n front (omega (arith, size, ap length is, length-append front (None ∷ [])))

@@ -1,4 +1,5 @@
-ghost use Rattle.std.specs.Prelude.{◌≡◌, ◌-◌, ◌<◌, ◌≤◌, [], ◌∷◌, ◌++◌, Some, None, Contains, IfSome, MatchOption, OnOk, OnErr, length, slice_get};
+ghost use Rattle.std.specs.Prelude.{◌≡◌, ◌+◌, ◌-◌, ◌<◌, ◌≤◌, List, [], ◌∷◌, ◌++◌, Option, Some, None, Contains, IfSome, MatchOption, OnOk, OnErr, length, slice_get};
+ghost use Rattle.bayou_base.specs.declared.tag.Tag.{Tag as Tagged};
 ghost use Rattle.bayou_tags.specs.Tags.{AreDistinct, IsGreatestRun};
 
 use bayou_base::Tag;
@@ -113,6 +114,16 @@ impl Tags {
     {
         let tag = self.coming.take();
         self.tags.push_reserved(tag);
+    }
+
+    /// Takes the last place back, which has no tag, while nothing comes. It takes no memory, and the place's room is free again.
+    pub fn take_back(&mut self)
+        requires last { (front : List (Option Tagged)) × (self.old.tags ≡ front ++ None ∷ []) }
+        requires nothing_comes { self.old.coming ≡ None }
+        ensures value { self.old.tags ≡ self.new.tags ++ None ∷ [] }
+        ensures same { self.new ≡ record self.old { tags = self.new.tags; room = self.old.room + 1 } }
+    {
+        self.tags.pop();
     }
 
     /// Nothing comes any more. It takes no memory, and the room that was taken stays.

@@ -53,3 +53,5 @@ mod tags;
 mod takes;
 #[cfg(test)]
 mod taking;
+#[cfg(test)]
+mod together;

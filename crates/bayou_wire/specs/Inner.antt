@@ -1,1 +1,2 @@
+pub mod Greetings
 pub mod Reading

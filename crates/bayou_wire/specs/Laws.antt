@@ -1,3 +1,4 @@
 pub mod Frames
+pub mod Keys
 pub mod Records
 pub mod Inner

@@ -1,4 +1,6 @@
+pub mod Digests
 pub mod Forms
+pub mod Greetings
 pub mod Inner
 pub mod Laws
 pub mod Records

@@ -3,6 +3,7 @@
 use Rattle.std.specs.Prelude.{◌≡◌, ◌≢◌, ℕ, ◌+◌, ◌<◌, ◌^◌, ℤ, List, [], ◌∷◌, ◌++◌, Option, None, Some, Result, Ok, Err, length, slice_index, IfSome}
 use Rattle.std.specs.List.{flat_map, range_with_len}
 use Rattle.std.specs.Int.{w16, w32, w64, to_be_bytes, cast_unsigned}
+use Rattle.bayou_base.specs.Refusal.{refusal_code}
 use Rattle.bayou_base.specs.Vector.{AreCounts}
 use Rattle.bayou_base.specs.declared.limits.TheConstants.{SERVERS}
 use Rattle.bayou_base.specs.declared.stamp.Stamp.{Stamp}
@@ -23,8 +24,8 @@ use Rattle.bayou_lang.specs.Ranges.{IsKey, IsProgram, IsValue}
 pub use Rattle.bayou_lang.specs.Ranges.{IsWrite}
 use Rattle.bayou_wire.specs.declared.fault.DecodeFault.{DecodeFault}
 use Rattle.bayou_wire.specs.declared.fault.DecodeFault.TheVariants as faults
-use Rattle.bayou_wire.specs.declared.frame.Refusal.{Refusal}
-use Rattle.bayou_wire.specs.declared.frame.Refusal.TheVariants as refusals
+use Rattle.bayou_base.specs.declared.refusal.Refusal.{Refusal}
+use Rattle.bayou_base.specs.declared.refusal.Refusal.TheVariants as refusals
 use Rattle.bayou_wire.specs.declared.frame.Frame.{Frame}
 use Rattle.bayou_wire.specs.declared.frame.Frame.TheVariants as frames
 use Rattle.bayou_wire.specs.declared.layout.TheConstants as layout
@@ -106,16 +107,20 @@ abbrev pub optional_wid_bytes : Option Wid → List ℕ
 optional_wid_bytes None = layout.ABSENT ∷ []
 optional_wid_bytes (Some wid) = layout.PRESENT ∷ wid_bytes wid
 
+abbrev pub behind_code : Refusal → List ℕ
+behind_code refusals.Down = []
+behind_code (refusals.Behind vector) = vector_bytes vector
+behind_code refusals.LogFull = []
+behind_code refusals.Journal = []
+behind_code refusals.NotDown = []
+behind_code (refusals.BadRecord at) = u32_bytes at
+behind_code refusals.Lost = []
+behind_code refusals.OutOfMemory = []
+behind_code refusals.TagUsed = []
+
+-- why a request is refused: its code, and what the server holds, or the place of the record
 abbrev pub refusal_bytes : Refusal → List ℕ
-refusal_bytes refusals.Down = layout.CODE_DOWN ∷ []
-refusal_bytes (refusals.Behind vector) = layout.CODE_BEHIND ∷ vector_bytes vector
-refusal_bytes refusals.LogFull = layout.CODE_LOG_FULL ∷ []
-refusal_bytes refusals.Journal = layout.CODE_JOURNAL ∷ []
-refusal_bytes refusals.NotDown = layout.CODE_NOT_DOWN ∷ []
-refusal_bytes (refusals.BadRecord at) = layout.CODE_BAD_RECORD ∷ u32_bytes at
-refusal_bytes refusals.Lost = layout.CODE_LOST ∷ []
-refusal_bytes refusals.OutOfMemory = layout.CODE_OUT_OF_MEMORY ∷ []
-refusal_bytes refusals.TagUsed = layout.CODE_TAG_USED ∷ []
+refusal_bytes refusal = refusal_code refusal ∷ behind_code refusal
 
 abbrev pub kind_of : Frame → ℕ
 kind_of (frames.Read need key) = layout.KIND_READ

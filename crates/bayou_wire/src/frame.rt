@@ -1,28 +1,5 @@
-use bayou_base::{Accepted, Key, Seen, Tag, Vector, Wid};
+use bayou_base::{Accepted, Key, Refusal, Seen, Tag, Vector, Wid};
 use bayou_lang::{Program, RestingProgram, RestingWrite, Write};
-
-/// Why a server refuses a request.
-#[derive(Clone, Copy, Debug, PartialEq, Eq)]
-pub enum Refusal {
-    /// It is down.
-    Down,
-    /// It doesn't hold what the request needs. This is what it holds.
-    Behind(Vector),
-    /// Its log is full.
-    LogFull,
-    /// Its journal failed, in a write or as it was opened again.
-    Journal,
-    /// It isn't down, so there is nothing to open again.
-    NotDown,
-    /// The entry at this place of its journal, from 0 on, isn't what may stand there.
-    BadRecord(u32),
-    /// Its journal lost Writes that it holds.
-    Lost,
-    /// Its memory ran out.
-    OutOfMemory,
-    /// It holds a Write of this tag, and that isn't the one asked for.
-    TagUsed,
-}
 
 /// What servers and clients say to each other: the requests, and then their replies. What it says of programs and Writes is at rest.
 #[derive(Debug, Drop, PartialEq, Eq)]

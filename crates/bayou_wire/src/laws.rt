@@ -1,14 +1,17 @@
 //! What the grammar comes to: each law is the contract of a function that does nothing.
-ghost use Rattle.std.specs.Prelude.{◌≡◌, ℕ, ◌+◌, ◌<◌, ◌≤◌, List, [], Option, Some, Result, ◌++◌, length};
+ghost use Rattle.std.specs.Prelude.{◌≡◌, ℕ, ◌+◌, ◌<◌, ◌≤◌, List, [], Option, Some, Result, Err, ◌++◌, length};
 ghost use Rattle.bayou_base.specs.declared.limits.TheConstants.{MAX_BODY_BYTES};
 ghost use Rattle.bayou_lang.specs.declared.write.Write.{Write};
 ghost use Rattle.bayou_wire.specs.declared.frame.Frame.{Frame};
 ghost use Rattle.bayou_wire.specs.declared.fault.DecodeFault.{DecodeFault};
+ghost use Rattle.bayou_wire.specs.declared.fault.DecodeFault.TheVariants.{BadKind};
+ghost use Rattle.bayou_wire.specs.declared.greeting.Greeting.{Greeting};
 ghost use Rattle.bayou_wire.specs.declared.layout.TheConstants.{LENGTH_BYTES};
 ghost use Rattle.bayou_wire.specs.declared.record.Form.{Form};
 ghost use Rattle.bayou_wire.specs.declared.record.Record.{Record};
 ghost use Rattle.bayou_wire.specs.declared.stream.FeedFault.{FeedFault};
 ghost use Rattle.bayou_lang.specs.Ranges.{IsWrite};
+ghost use Rattle.bayou_wire.specs.Greetings.{GreetingAnswer, IsGreeting, greeting_bytes};
 ghost use Rattle.bayou_wire.specs.Records.{SpellsRecord};
 ghost use Rattle.bayou_wire.specs.Spelling.{IsFrame, WriteAnswer, frame_bytes, write_bytes};
 ghost use Rattle.bayou_wire.specs.Stream.{Feeds, FrameAnswer, HasLength, IsFaulty, IsLeft, IsPartial, Splits, bytes_fed, frames_given};
@@ -86,4 +89,24 @@ pub fn a_fault_stays()
 pub fn a_frame_has_its_length()
     ensures { (frame : Frame) (behind : List ℕ) (len : ℕ) → IsFrame frame → HasLength (frame_bytes frame ++ behind) len
         → length (frame_bytes frame) ≡ LENGTH_BYTES + len }
+{}
+
+/// No greeting's spelling begins another's, so each spelling is of one greeting.
+pub fn no_greeting_begins_another()
+    ensures { (a b : Greeting) (x y : List ℕ) → IsGreeting a → IsGreeting b → greeting_bytes a ++ x ≡ greeting_bytes b ++ y → (a ≡ b) × (x ≡ y) }
+{}
+
+/// Of each input there is one answer to whoever decodes a greeting.
+pub fn one_greeting_answer()
+    ensures { (bytes : List ℕ) (a b : Result Greeting DecodeFault) → GreetingAnswer bytes a → GreetingAnswer bytes b → a ≡ b }
+{}
+
+/// Who knows frames alone finds a kind that it doesn't know where a greeting stands.
+pub fn a_greeting_is_no_frame()
+    ensures { (greeting : Greeting) (behind : List ℕ) → IsGreeting greeting → IsFaulty (greeting_bytes greeting ++ behind) BadKind }
+{}
+
+/// A frame is no greeting: its kind is none of theirs.
+pub fn a_frame_is_no_greeting()
+    ensures { (frame : Frame) (behind : List ℕ) → IsFrame frame → GreetingAnswer (frame_bytes frame ++ behind) (Err BadKind) }
 {}

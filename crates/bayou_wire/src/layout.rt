@@ -74,21 +74,34 @@ pub const KIND_ITEM: u8 = 0x15;
 /// A reply: the end of the Writes asked for.
 pub const KIND_END: u8 = 0x16;
 
-/// The server is down.
-pub const CODE_DOWN: u8 = 1;
-/// The server is behind the need.
-pub const CODE_BEHIND: u8 = 2;
-/// The log is full.
-pub const CODE_LOG_FULL: u8 = 3;
-/// The journal failed.
-pub const CODE_JOURNAL: u8 = 4;
-/// The server isn't down.
-pub const CODE_NOT_DOWN: u8 = 5;
-/// An entry of the journal is no Write that may stand there.
-pub const CODE_BAD_RECORD: u8 = 6;
-/// The journal lost Writes that are held.
-pub const CODE_LOST: u8 = 7;
-/// The server's memory ran out.
-pub const CODE_OUT_OF_MEMORY: u8 = 8;
-/// The server holds a Write of the request's tag, and that isn't the one asked for.
-pub const CODE_TAG_USED: u8 = 9;
+/// Which version of the greeting is spoken.
+pub const GREETING_VERSION: u8 = 1;
+
+/// How many bytes the number has that each end draws at random for one greeting.
+pub const NONCE_BYTES: usize = 16;
+
+/// How many bytes a proof has that an end knows the key of its store.
+pub const PROOF_BYTES: usize = 32;
+
+/// Of how many counts the digests are asked for at once at the most.
+pub const DIGESTS_AT_ONCE: usize = 16;
+
+/// No server: a client greets, or any server will do.
+pub const NO_SERVER: u8 = 255;
+/// Any number of servers will do.
+pub const ANY_COUNT: u8 = 0;
+
+/// A greeting's request: who greets, and whom.
+pub const KIND_HELLO: u8 = 0x20;
+/// A greeting's request: the proof of who greets.
+pub const KIND_PROOF: u8 = 0x21;
+/// A greeting's request: the digests of an origin's Writes at these counts.
+pub const KIND_DIGESTS: u8 = 0x24;
+/// A greeting's reply: who is greeted.
+pub const KIND_WELCOME: u8 = 0x30;
+/// A greeting's reply: who greets is known. This is what is held.
+pub const KIND_KNOWN: u8 = 0x31;
+/// A greeting's reply: other Writes of this origin are held.
+pub const KIND_DIFFERS: u8 = 0x32;
+/// A greeting's reply: the digests asked for.
+pub const KIND_DIGESTED: u8 = 0x34;

@@ -7,6 +7,9 @@
 //! [`encode_record`] and [`decode_record`] are of a [`Record`], a Write with the tag of its asking, by `specs/Records`: bodies of a
 //! journal's entries, in the [`Form`] of the version. Of a form whose vectors have fewer counts a copy with all of them is read.
 //!
+//! A [`Greeting`] is what two ends say to each other before they are known, by `specs/Greetings`: [`encode_greeting`] and [`decode_greeting`] do
+//! with it as the others do with a frame. It is no frame, and no frame is one: each is a bad kind in the other's place.
+//!
 //! [`Frames`] reads a stream in pieces: callers see it as the bytes that it holds back, or as nothing once a fault was told.
 //! `specs/Stream` says what stands in a frame's place, and what one call makes of what was held back and the piece; [`laws`]
 //! says what that comes to over all calls: the frames of the stream, however it was cut.
@@ -18,13 +21,19 @@
 #![tactic(auto)]
 
 pub mod decode;
+pub mod digests;
 pub mod encode;
 pub mod fault;
 pub mod frame;
 mod front;
+pub mod greeting;
+mod greeting_put;
+mod greeting_take;
 pub mod laws;
 pub mod layout;
+pub mod nonce;
 mod payload;
+pub mod proof;
 mod put;
 pub mod record;
 mod resting;
@@ -32,8 +41,14 @@ pub mod stream;
 mod take;
 
 pub use decode::{decode_frame, decode_resting_write, decode_write, frame_len};
+pub use digests::Digests;
 pub use encode::{encode_frame, encode_item, encode_resting_write, encode_write};
 pub use fault::{DecodeFault, RestingFault};
-pub use frame::{Frame, PlainFrame, Refusal};
+pub use frame::{Frame, PlainFrame};
+pub use greeting::{Greeting, Held, Hello, Inquiry, Known, Proving, ServerCount, Welcome};
+pub use greeting_put::encode_greeting;
+pub use greeting_take::decode_greeting;
+pub use nonce::Nonce;
+pub use proof::Proof;
 pub use record::{Form, Record, decode_record, encode_record};
 pub use stream::{FeedFault, Frames};

@@ -3,13 +3,17 @@ ghost use Rattle.std.specs.Prelude.{◌≡◌, IfOk};
 ghost use Rattle.bayou_wire.specs.Forms.{frame_of};
 ghost use Rattle.bayou_wire.specs.Inner.Reading.{Gives, is_kind as is_kind_test, optional_value_at, optional_wid_at, payload_at, refusal_at, reply_at, seen_at};
 
-use crate::frame::{Frame, PlainFrame, Refusal};
+use crate::frame::{Frame, PlainFrame};
 use crate::layout::*;
 use crate::resting::{resting_program_of, resting_write_of};
 use crate::take::{
     accepted_of, key_of, program_of, tag_of, u32_of, value_of, vector_of, wid_of, write_of,
 };
-use bayou_base::{Seen, Value, Wid};
+use bayou_base::refusal::{
+    CODE_BAD_RECORD, CODE_BEHIND, CODE_DOWN, CODE_JOURNAL, CODE_LOG_FULL, CODE_LOST, CODE_NOT_DOWN,
+    CODE_OUT_OF_MEMORY, CODE_TAG_USED,
+};
+use bayou_base::{Refusal, Seen, Value, Wid};
 use std::alloc::{AllocError, Global};
 
 #[tactic(auto, unfolding(crate::specs::Inner::Reading::is_kind))]

@@ -6,14 +6,14 @@ ghost use Rattle.bayou_wire.specs.Spelling.{accepted_bytes, alt_bytes, cond_byte
 ghost use Rattle.bayou_base.specs.Vector.{AreCounts};
 ghost use Rattle.std.specs.Option.{IfSome};
 
-use crate::frame::{Frame, Refusal};
+use crate::frame::Frame;
 use crate::layout::*;
-use bayou_base::{Key, Prefix, Stamp, Tag, Text, Value, Vector, Wid};
+use bayou_base::{Key, Prefix, Refusal, Stamp, Tag, Text, Value, Vector, Wid};
 use bayou_lang::{Alt, Cond, Op, Program, RestingAlt, RestingProgram, RestingWrite, Term, Write};
 use std::alloc::AllocError;
 
 /// What stands in lists.
-trait Spelled {
+pub(crate) trait Spelled {
     ghost Is: { Self → Type 0 };
 
     ghost spelling: { Self → List ℕ };
@@ -23,7 +23,7 @@ trait Spelled {
         ensures { OnOk result (Is self.now × (out.new.items ≡ out.old.items ++ spelling self.now)) };
 }
 
-fn put_list<T: Spelled>(out: &mut Vec<u8>, members: &[T]) -> Result<(), AllocError>
+pub(crate) fn put_list<T: Spelled>(out: &mut Vec<u8>, members: &[T]) -> Result<(), AllocError>
     requires { length members.now < 256 }
     ensures { OnOk result (AllByRecursion T.Is members.now × (out.new.items ≡ out.old.items ++ list_bytes T.spelling members.now)) }
 {
@@ -34,7 +34,7 @@ fn put_list<T: Spelled>(out: &mut Vec<u8>, members: &[T]) -> Result<(), AllocErr
     Ok(())
 }
 
-fn put_u32(out: &mut Vec<u8>, number: u32) -> Result<(), AllocError>
+pub(crate) fn put_u32(out: &mut Vec<u8>, number: u32) -> Result<(), AllocError>
     ensures { OnOk result ((number < 2 ^ 32) × (out.new.items ≡ out.old.items ++ u32_bytes number)) }
 {
     out.extend_from_slice(&number.to_be_bytes())
@@ -55,7 +55,7 @@ fn put_short(out: &mut Vec<u8>, bytes: &[u8]) -> Result<(), AllocError>
     out.extend_from_slice(bytes)
 }
 
-fn put_key(out: &mut Vec<u8>, key: &Key) -> Result<(), AllocError>
+pub(crate) fn put_key(out: &mut Vec<u8>, key: &Key) -> Result<(), AllocError>
     ensures { OnOk result (IsKey key.now × (out.new.items ≡ out.old.items ++ short_bytes key.now)) }
 {
     put_short(out, key.as_str().as_bytes())
@@ -206,7 +206,7 @@ fn put_counts(out: &mut Vec<u8>, counts: &[u32]) -> Result<(), AllocError>
     Ok(())
 }
 
-fn put_vector(out: &mut Vec<u8>, vector: &Vector) -> Result<(), AllocError>
+pub(crate) fn put_vector(out: &mut Vec<u8>, vector: &Vector) -> Result<(), AllocError>
     ensures { OnOk result (AreCounts vector.now × (out.new.items ≡ out.old.items ++ vector_bytes vector.now)) }
 {
     put_counts(out, vector.counts())
@@ -276,7 +276,7 @@ fn put_optional_wid(out: &mut Vec<u8>, wid: Option<Wid>) -> Result<(), AllocErro
     }
 }
 
-fn put_code(out: &mut Vec<u8>, code: u8) -> Result<(), AllocError>
+pub(crate) fn put_code(out: &mut Vec<u8>, code: u8) -> Result<(), AllocError>
     ensures { OnOk result (out.new.items ≡ out.old.items ++ code ∷ []) }
 {
     out.push(code)?;
@@ -286,22 +286,17 @@ fn put_code(out: &mut Vec<u8>, code: u8) -> Result<(), AllocError>
 fn put_refusal(out: &mut Vec<u8>, refusal: &Refusal) -> Result<(), AllocError>
     ensures { OnOk result (IsRefusal refusal.now × (out.new.items ≡ out.old.items ++ refusal_bytes refusal.now)) }
 {
+    out.push(refusal.code())?;
     match refusal {
-        Refusal::Down => put_code(out, CODE_DOWN),
-        Refusal::Behind(vector) => {
-            put_code(out, CODE_BEHIND)?;
-            put_vector(out, vector)
-        }
-        Refusal::LogFull => put_code(out, CODE_LOG_FULL),
-        Refusal::Journal => put_code(out, CODE_JOURNAL),
-        Refusal::NotDown => put_code(out, CODE_NOT_DOWN),
-        Refusal::BadRecord(at) => {
-            put_code(out, CODE_BAD_RECORD)?;
-            put_u32(out, *at)
-        }
-        Refusal::Lost => put_code(out, CODE_LOST),
-        Refusal::OutOfMemory => put_code(out, CODE_OUT_OF_MEMORY),
-        Refusal::TagUsed => put_code(out, CODE_TAG_USED),
+        Refusal::Behind(vector) => put_vector(out, vector),
+        Refusal::BadRecord(at) => put_u32(out, *at),
+        Refusal::Down
+        | Refusal::LogFull
+        | Refusal::Journal
+        | Refusal::NotDown
+        | Refusal::Lost
+        | Refusal::OutOfMemory
+        | Refusal::TagUsed => Ok(()),
     }
 }
 

@@ -22,7 +22,7 @@ pub(crate) trait Member: Default + Drop {
 }
 
 /// So many members.
-fn members_of<T: Member, const CAP: usize>(
+pub(crate) fn members_of<T: Member, const CAP: usize>(
     count: usize,
     bytes: &[u8],
 ) -> Option<(ArrayVec<T, CAP>, &[u8])>
@@ -42,7 +42,9 @@ fn members_of<T: Member, const CAP: usize>(
 }
 
 #[tactic(auto, unfolding(crate::specs::Inner::Reading::list_at))]
-fn list_of<T: Member, const CAP: usize>(bytes: &[u8]) -> Option<(ArrayVec<T, CAP>, &[u8])>
+pub(crate) fn list_of<T: Member, const CAP: usize>(
+    bytes: &[u8],
+) -> Option<(ArrayVec<T, CAP>, &[u8])>
     ensures { Gives (λ x. (x.0.items, x.1.now)) result (list_at CAP T.at bytes.now) }
 {
     let [count, rest @ ..] = bytes else {
@@ -55,7 +57,7 @@ fn list_of<T: Member, const CAP: usize>(bytes: &[u8]) -> Option<(ArrayVec<T, CAP
     members_of(count, rest)
 }
 
-fn byte_of(bytes: &[u8]) -> Option<(u8, &[u8])>
+pub(crate) fn byte_of(bytes: &[u8]) -> Option<(u8, &[u8])>
     ensures { Gives (λ x. (x.0, x.1.now)) result (byte_at bytes.now) }
 {
     match bytes {
@@ -339,7 +341,7 @@ pub(crate) fn vector_of(bytes: &[u8]) -> Option<(Vector, &[u8])>
     Some((vector, rest))
 }
 
-fn server_from(index: u8) -> Option<ServerId>
+pub(crate) fn server_from(index: u8) -> Option<ServerId>
     ensures { result ≡ server_of_index index }
 {
     ServerId::new(index)

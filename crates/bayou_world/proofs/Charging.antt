@@ -88,7 +88,7 @@ reopened_spends (Err (reopening.Journal Device)) old new calls (rose, left) = ri
 reopened_spends (Err (reopening.Journal NotAJournal)) old new calls (unchanged, foreign) = steady 4 old.device new.device calls unchanged.counts
 reopened_spends (Err (reopening.Journal OtherServer)) old new calls (unchanged, another) = steady 4 old.device new.device calls unchanged.counts
 reopened_spends (Err reopening.Lost) old new calls (bodies, opens, lost) = steady 4 old.device new.device calls opens.opened.counts
-reopened_spends (Err (reopening.BadRecord at)) old new calls (doubt, is, (bodies, opens, other)) = steady 4 old.device new.device calls opens.opened.counts
+reopened_spends (Err (reopening.BadRecord at)) old new calls (doubt, is, (bodies, opens, other, fronts)) = steady 4 old.device new.device calls opens.opened.counts
 reopened_spends (Err reopening.OutOfMemory) old new calls (inl unchanged) = steady 4 old.device new.device calls unchanged.counts
 reopened_spends (Err reopening.OutOfMemory) old new calls (inr (bodies, opens)) = steady 4 old.device new.device calls opens.opened.counts
 

@@ -93,7 +93,7 @@ nothing_other_is_found D d old new (Ok reopened) honest reopens = λ no. no
 nothing_other_is_found D d old new (Err reopening.NotDown) honest reopens = λ no. no
 nothing_other_is_found D d old new (Err (reopening.Journal fault)) honest reopens = λ no. no
 nothing_other_is_found D d old new (Err reopening.Lost) honest (bodies, opens, lost) = absurd (lost (found_begins old.core bodies (honest new.device bodies new.last opens)))
-nothing_other_is_found D d old new (Err (reopening.BadRecord at)) honest (doubt, is, (bodies, opens, other)) =
+nothing_other_is_found D d old new (Err (reopening.BadRecord at)) honest (doubt, is, (bodies, opens, other, fronts)) =
     elim (honest new.device bodies new.last opens) as (λ _. ¬ FindsOthers (Err (reopening.BadRecord at))) [
       | inl held ↦ absurd (other.not_held held)
       | inr more ↦

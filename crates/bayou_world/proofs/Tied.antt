@@ -17,8 +17,6 @@ use Rattle.bayou_world.specs.Invariant.{IsVectorOf}
 use Rattle.bayou_server.specs.declared.fault.Behind.{Behind}
 use Rattle.bayou_server.specs.Reads as served
 use Rattle.bayou_device.specs.Memory.{Memory}
-use Rattle.bayou_device.specs.MemoryDevice.{memory_device}
-use Rattle.bayou_server.specs.Honest.{IsHonestServer}
 use Rattle.bayou_server.specs.Server.{Core, ServerState}
 use Rattle.bayou_session.specs.Needs.{HasCounts, Told, one_place_more, read_need}
 use Rattle.bayou_world.specs.declared.world_session.WorldSession.{WorldSession}
@@ -29,7 +27,7 @@ use Rattle.bayou_world.specs.declared.world_server.WorldServer.TheVariants.{Runn
 use Rattle.bayou_world.specs.declared.reply.Reply.TheVariants as replies
 use Rattle.bayou_world.specs.Inner.WorldSessions.{Begins, seen_as}
 use Rattle.bayou_world.specs.Inner.Good.{IsGoodMachine}
-use Rattle.bayou_world.specs.Inner.WorldServers.{is_stopped}
+use Rattle.bayou_world.specs.Inner.WorldServers.{IsHonestAlone, is_stopped}
 use Rattle.bayou_world.specs.Inner.Tie.{IsAcceptedIn, IsAskedOf, IsWorldSessionOf, IsFlightOf, IsSeatOf, IsWorldServerOf, IsServerOf, IsTied, number_of, seat}
 use Rattle.bayou_world.specs.Agreement.{StandsFor}
 use Rattle.bayou_world.specs.Machine.{Answered, Asking, Machine, ServerSets, SessionSets, changed, with_server, with_session, writes}
@@ -59,10 +57,10 @@ stands_at servers place at world_server is found here same =
 pub record IsRunningServer (machine : Machine) (place : ℕ) (server : ServerState Memory) : Type 0 where
   pub running : IsRunning machine place
   pub core : IsServerOf machine.count machine.limit place server.core (machine.servers place)
-  pub honest : IsHonestServer memory_device server
+  pub honest : IsHonestAlone server
 
 -- and the other way round
-pub running_server : (count limit place : ℕ) (new : ServerState Memory) (server : ServerSets) → server.stopped ≡ false → IsServerOf count limit place new.core server → IsHonestServer memory_device new
+pub running_server : (count limit place : ℕ) (new : ServerState Memory) (server : ServerSets) → server.stopped ≡ false → IsServerOf count limit place new.core server → IsHonestAlone new
     → IsWorldServerOf count limit place (Running new) server
 running_server count limit place new server runs core honest = record { stopped = runs; core = core; kept = honest }
 

@@ -7,14 +7,13 @@ use Rattle.bayou_base.specs.declared.entry.Entry.{Entry}
 use Rattle.bayou_base.specs.declared.tag.Tag.{Tag}
 use Rattle.bayou_base.specs.declared.wid.Wid.{Wid}
 use Rattle.bayou_device.specs.Memory.{Memory}
-use Rattle.bayou_device.specs.MemoryDevice.{memory_device}
 use Rattle.bayou_lang.specs.declared.write.Write.{Write}
 use Rattle.bayou_server.specs.declared.answer.Reopened.{Reopened}
 use Rattle.bayou_server.specs.declared.fault.JournalFault.TheVariants.{Device, NotAJournal, OtherServer}
 use Rattle.bayou_server.specs.declared.fault.ReopenFault.{ReopenFault}
 use Rattle.bayou_server.specs.declared.fault.ReopenFault.TheVariants as reopening
 use Rattle.bayou_server.specs.declared.fault.StartFault.{StartFault}
-use Rattle.bayou_server.specs.Honest.{AreHonest, IsHonestAnswer, IsHonestServer}
+use Rattle.bayou_server.specs.Honest.{AreHonest, IsHonestAnswer}
 use Rattle.bayou_server.specs.Reopens as opened
 use Rattle.bayou_server.specs.Server.{Core, IsSoundServer, ServerState, in_doubt, record_in_doubt, records, records_of}
 use Rattle.bayou_wire.specs.declared.record.Record.{Record}
@@ -22,7 +21,7 @@ use Rattle.bayou_world.specs.declared.world_session.WorldSession.{WorldSession}
 use Rattle.bayou_world.specs.declared.world_server.WorldServer.{WorldServer}
 use Rattle.bayou_world.specs.declared.world_server.WorldServer.TheVariants.{Running}
 use Rattle.bayou_world.specs.declared.reply.Reply.TheVariants as replies
-use Rattle.bayou_world.specs.Inner.WorldServers.{IsKept, Starts, StaysHonest, core_of, is_stopped}
+use Rattle.bayou_world.specs.Inner.WorldServers.{IsHonestAlone, IsKept, Starts, StaysHonest, core_of, is_stopped}
 use Rattle.bayou_world.specs.Inner.Tie.{IsWorldServerOf, IsServerOf, IsTied, write_of}
 use Rattle.bayou_world.specs.Machine.{Machine, Made, ServerSets, tag_at, with_server, writes}
 use Rattle.bayou_world.specs.Steps.{FuseStep, Recovers, RefusesReopening, ReopenStep, RestartStep, stopped_now, up_again, wid_of, with_write}
@@ -93,7 +92,7 @@ record IsUpAgain (machine : Machine) (place : ℕ) (adopted : Option Wid) (new :
   name : adopted ≡ option_map wid_of made
   world_server : IsWorldServerOf machine.count machine.limit place (Running new) server
 
-up_again_there : (machine : Machine) (place : ℕ) (old new : ServerState Memory) (adopted : Option Wid) → IsRunningServer machine place old → IsHonestServer memory_device new
+up_again_there : (machine : Machine) (place : ℕ) (old new : ServerState Memory) (adopted : Option Wid) → IsRunningServer machine place old → IsHonestAlone new
     → opened.Recovers old.core adopted new.core → IsUpAgain machine place adopted new
 up_again_there machine place old new None here honest (down, is) =
     let server = machine.servers place in record {
@@ -138,18 +137,18 @@ refused_there machine place old new reopening.OutOfMemory at honest (down, same)
 
 pub reopen_tied : (servers : List WorldServer) (world_sessions : List (Option WorldSession)) (offers : List (List ℕ)) (items : List Write) (told : List Entry) (machine : Machine)
     → IsTied servers world_sessions offers items told machine → (place : ℕ) (old new : ServerState Memory) (answer : Result Reopened ReopenFault) → place < length servers → get_or servers place (Running old) ≡ Running old
-    → opened.Reopens old.core answer new.core → (IsHonestServer memory_device old → IsHonestAnswer answer) → StaysHonest old new
+    → (IsHonestAlone old → opened.Reopens old.core answer new.core) → (IsHonestAlone old → IsHonestAnswer answer) → StaysHonest old new
     → (next : Machine) × ReopenStep machine place (replies.Reopened answer) next × IsTied (set servers place (Running new)) world_sessions offers items told next
 reopen_tied servers world_sessions offers items told machine tied place old new (Ok reopened) known stands reopens answers stays =
     let here = runs_at servers world_sessions offers items told machine tied place old known stands in
-    let there = up_again_there machine place old new reopened.adopted here (stays here.honest) reopens in (
+    let there = up_again_there machine place old new reopened.adopted here (stays here.honest) (reopens here.honest) in (
       with_server machine place there.server,
       ReopenStep.reopened there.made there.server here.running there.down there.recovers (ap (λ a. replies.Reopened (Ok (record { adopted = a }))) there.name) refl,
       with_place servers world_sessions offers items told machine tied place (Running new) there.server here.running.there there.world_server,
     )
 reopen_tied servers world_sessions offers items told machine tied place old new (Err fault) known stands reopens answers stays =
     let here = runs_at servers world_sessions offers items told machine tied place old known stands in
-    let refused = refused_there machine place old.core new.core fault here.core (answers here.honest) reopens in (
+    let refused = refused_there machine place old.core new.core fault here.core (answers here.honest) (reopens here.honest) in (
       machine,
       ReopenStep.refused fault here.running refused.0 refl refl,
       same_place servers world_sessions offers items told machine tied place (Running new) here.running.there

@@ -4,15 +4,14 @@ ghost use Rattle.bayou_base.specs.declared.limits.TheConstants.{MAX_NUMBER};
 ghost use Rattle.bayou_base.specs.Vector.{Dominates};
 ghost use Rattle.bayou_lang.specs.Writes.{AreFitting, count_of, lacking_of};
 ghost use Rattle.bayou_device.specs.Memory.{with_fuse};
-ghost use Rattle.bayou_device.specs.MemoryDevice.{memory_device};
-ghost use Rattle.bayou_server.specs.Honest.{IsHonestAnswer, IsHonestServer};
+ghost use Rattle.bayou_server.specs.Honest.{IsHonestAnswer};
 ghost use Rattle.bayou_server.specs.Reopens.{Reopens};
 ghost use Rattle.bayou_server.specs.Server.{holds_of};
 ghost use Rattle.bayou_server.specs.Takes.{Takes};
 ghost use Rattle.bayou_world.specs.declared.reply.Reply.TheVariants.{Reopened as WasReopened, Restarted as WasRestarted, Took as WasTaken};
 ghost use Rattle.bayou_world.specs.Faults.{tells_fault};
 ghost use Rattle.bayou_world.specs.Inner.Charges.{IsUnused, Spends};
-ghost use Rattle.bayou_world.specs.Inner.WorldServers.{IsFresh, IsKept, IsLeftOf, Starts, StaysHonest, core_of, device_of, is_stopped};
+ghost use Rattle.bayou_world.specs.Inner.WorldServers.{IsFresh, IsHonestAlone, IsKept, IsLeftOf, Starts, StaysHonest, core_of, device_of, is_stopped};
 
 use crate::role::Role;
 use bayou_base::Vector;
@@ -74,8 +73,8 @@ pub fn reopen_server(
     alloc: Global,
     server: &mut Server<MemoryDevice<OpenGate>>,
 ) -> Result<Reopened, ReopenFault>
-    ensures reopens { Reopens server.old.core result server.new.core }
-    ensures answer { IsHonestServer memory_device server.old → IsHonestAnswer result }
+    ensures reopens { IsHonestAlone server.old → Reopens server.old.core result server.new.core }
+    ensures answer { IsHonestAlone server.old → IsHonestAnswer result }
     ensures honest { StaysHonest server.old server.new }
     ensures spends { Spends (tells_fault (WasReopened result)) false server.old.device server.new.device }
 {

@@ -5,6 +5,7 @@ use Rattle.std.specs.Io.{IsEmptyOrEndsWith}
 use Rattle.bayou_lang.specs.declared.eval.Outcome.{Outcome}
 use Rattle.bayou_lang.specs.declared.eval.Outcome.TheVariants.{Updated, Merged, Nothing}
 use Rattle.bayou_log.specs.declared.listing.Listed.{Listed}
+use Rattle.bayou_base.specs.Refusal.{refusal_word}
 use Rattle.bayou_answers.specs.declared.answer.Answer.{Answer}
 use Rattle.bayou_answers.specs.declared.answer.Answer.TheVariants.{Done, Wrote, Read, Refused, Lost, NotAgain, Logged, Stopped, Recovered, Exchanged, Counted, Judged, Surveyed, Booked}
 use Rattle.bayou_answers.specs.declared.answer.Transfer.{Transfer}
@@ -21,7 +22,7 @@ use Rattle.bayou_node.specs.declared.node_settled.NodeSettled.{NodeSettled}
 use Rattle.bayou_text.specs.Said.{Said}
 use Rattle.bayou_print.specs.Booked.{line_text}
 use Rattle.bayou_print.specs.Verdicts.{broken_text, found_text, guarantee_text, refused_text, surveyed_text, verdict_text}
-use Rattle.bayou_print.specs.Printed.{adopted_text, counts_text, transfer_text, last_text, listed_text, outcome_text, pulling_text, recovery_text, refusal_text, reopening_text, settled_text, starting_text, value_text}
+use Rattle.bayou_print.specs.Printed.{adopted_text, counts_text, transfer_text, last_text, listed_text, outcome_text, pulling_text, recovery_text, refusal_text, settled_text, starting_text, value_text}
 
 -- it ends with a line feed
 record Ends (text : List ℕ) : Type 0 where
@@ -43,7 +44,7 @@ ends_is text ends = λ some.
 
 recovery_ends : (recovery : Recovery) → Ends (recovery_text recovery)
 recovery_ends (Reopened server adopted) = behind (codes "reopened ") _ (behind (decimal server.index) _ (behind (codes " adopted ") _ (behind (adopted_text adopted) _ feed)))
-recovery_ends (NotReopened refusal) = behind (codes "reopen refused ") _ (behind (reopening_text refusal) _ feed)
+recovery_ends (NotReopened refusal) = behind (codes "reopen refused ") _ (behind (refusal_word refusal) _ feed)
 recovery_ends NotRunning = record { front = codes "reopen refused stopped"; split = refl }
 recovery_ends (Restarted server holds dropped) =
     behind (codes "restarted ") _ (behind (decimal server.index) _ (behind (codes " holds ") _ (behind (decimal holds) _ (behind (codes " dropped ") _ (behind (decimal dropped) _ feed)))))

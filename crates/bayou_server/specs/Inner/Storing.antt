@@ -44,6 +44,8 @@ pub record IsHeld (old : Holding) (write : Write) (new : Holding) : Type 0 where
   pub log : new.log ≡ record old.log { receipts = old.log.receipts ++ write ∷ []; room = new.log.room; waiting = new.log.waiting }
   pub tags : new.tags ≡ record old.tags { tags = old.tags.tags ++ old.tags.coming ∷ []; coming = None; room = new.tags.room }
   pub doubt : new.doubt ≡ old.doubt
+  pub taking : new.taking ≡ old.taking
+  pub together : new.together ≡ old.together
 
 -- what comes of a Write once its entry was to be added: it is held behind the others, or is in doubt
 abbrev pub Settles : Holding → Write → Result (Unit {0}) AppendFault → Stored → (new : Holding) → Type 0

@@ -23,8 +23,9 @@ use Rattle.bayou_lang.specs.declared.program.Program.{Program}
 use Rattle.bayou_lang.specs.declared.program.Term.{Term}
 use Rattle.bayou_lang.specs.declared.program.Term.TheVariants.{Lit, Copy, Plus}
 use Rattle.bayou_lang.specs.declared.write.Write.{Write}
-use Rattle.bayou_wire.specs.declared.frame.Refusal.{Refusal}
-use Rattle.bayou_wire.specs.declared.frame.Refusal.TheVariants as refusals
+use Rattle.bayou_base.specs.declared.refusal.TheConstants as refusal_codes
+use Rattle.bayou_base.specs.declared.refusal.Refusal.{Refusal}
+use Rattle.bayou_base.specs.declared.refusal.Refusal.TheVariants as refusals
 use Rattle.bayou_wire.specs.declared.frame.Frame.{Frame}
 use Rattle.bayou_wire.specs.declared.frame.Frame.TheVariants as frames
 use Rattle.bayou_wire.specs.declared.fault.DecodeFault.{DecodeFault}
@@ -253,15 +254,15 @@ SpellsIn Wide bytes write = SpellsWrite bytes write
 unfoldable pub refusal_at : List ℕ → Read Refusal
 refusal_at [] = None
 refusal_at (code ∷ bytes) =
-    if code == layout.CODE_DOWN then Some (refusals.Down, bytes)
-    else (if code == layout.CODE_BEHIND then made refusals.Behind vector_at bytes
-    else (if code == layout.CODE_LOG_FULL then Some (refusals.LogFull, bytes)
-    else (if code == layout.CODE_JOURNAL then Some (refusals.Journal, bytes)
-    else (if code == layout.CODE_NOT_DOWN then Some (refusals.NotDown, bytes)
-    else (if code == layout.CODE_BAD_RECORD then made refusals.BadRecord (number_at w32) bytes
-    else (if code == layout.CODE_LOST then Some (refusals.Lost, bytes)
-    else (if code == layout.CODE_OUT_OF_MEMORY then Some (refusals.OutOfMemory, bytes)
-    else (if code == layout.CODE_TAG_USED then Some (refusals.TagUsed, bytes) else None))))))))
+    if code == refusal_codes.CODE_DOWN then Some (refusals.Down, bytes)
+    else (if code == refusal_codes.CODE_BEHIND then made refusals.Behind vector_at bytes
+    else (if code == refusal_codes.CODE_LOG_FULL then Some (refusals.LogFull, bytes)
+    else (if code == refusal_codes.CODE_JOURNAL then Some (refusals.Journal, bytes)
+    else (if code == refusal_codes.CODE_NOT_DOWN then Some (refusals.NotDown, bytes)
+    else (if code == refusal_codes.CODE_BAD_RECORD then made refusals.BadRecord (number_at w32) bytes
+    else (if code == refusal_codes.CODE_LOST then Some (refusals.Lost, bytes)
+    else (if code == refusal_codes.CODE_OUT_OF_MEMORY then Some (refusals.OutOfMemory, bytes)
+    else (if code == refusal_codes.CODE_TAG_USED then Some (refusals.TagUsed, bytes) else None))))))))
 
 unfoldable pub seen_at : List ℕ → Read Seen
 seen_at bytes = made (λ p. record { value = p.0; vector = p.1 }) (both optional_value_at vector_at) bytes

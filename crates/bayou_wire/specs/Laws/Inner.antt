@@ -4,3 +4,4 @@ pub mod Formats
 pub mod Payloads
 pub mod Sizes
 pub mod Fronts
+pub mod Greetings

@@ -34,9 +34,14 @@ core_of (Stopped role left) = record {
 abbrev pub held_by : WorldServer → List Write
 held_by world_server = (core_of world_server).held
 
+-- a server over an honest device, behind whose Write in doubt no other is
+pub record IsHonestAlone (server : ServerState Memory) : Type 0 where
+  pub honest : IsHonestServer memory_device server
+  pub alone : server.taking ≡ []
+
 -- a server that is honest stays so
 abbrev pub StaysHonest : ServerState Memory → ServerState Memory → Type 0
-StaysHonest old new = IsHonestServer memory_device old → IsHonestServer memory_device new
+StaysHonest old new = IsHonestAlone old → IsHonestAlone new
 
 -- what is left of a server: what it held is sound, and the device is honest for that
 pub record IsLeftOf (core : Core) (device : Memory) : Type 0 where
@@ -45,7 +50,7 @@ pub record IsLeftOf (core : Core) (device : Memory) : Type 0 where
 
 -- a server that runs is over an honest device, a whole one while it is up
 abbrev pub IsKept : WorldServer → Type 0
-IsKept (Running server) = IsHonestServer memory_device server
+IsKept (Running server) = IsHonestAlone server
 IsKept (Stopped role left) = IsLeftOf (core_of (Stopped role left)) left.device
 
 -- it runs, is up, and holds no Write

@@ -1,4 +1,4 @@
-use Rattle.bayou_journal.proofs.Crashing.{doubt_is_kept, entry_in_doubt, front_of_doubt, kept_and_tail, the_same_device}
+use Rattle.bayou_journal.proofs.Crashing.{doubt_is_kept, entry_in_doubt, front_of_doubt, front_of_several, kept_and_tail, the_same_device}
 use Rattle.bayou_journal.proofs.Raising.{marked-newest}
 use Rattle.bayou_journal.proofs.laws.what_stands_behind_the_kept_decides.Goals as goal
 
@@ -19,3 +19,6 @@ returns-clause-newest g c = marked-newest
 
 pub returns-clause-same : goal.returns-clause-same
 returns-clause-same g c = the_same_device g.D.Device
+
+pub returns-clause-several : goal.returns-clause-several
+returns-clause-several g c = front_of_several

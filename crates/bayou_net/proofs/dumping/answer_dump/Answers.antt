@@ -8,7 +8,7 @@ use Rattle.bayou_net.specs.Serving.{Steps}
 use Rattle.bayou_net.proofs.Dumped.{dump_broken, dump_ended, dumped_first, dumped_none, dumped_part}
 use Rattle.bayou_streams.specs.Written.{AppendsFront}
 use Rattle.bayou_wire.specs.declared.frame.Frame.TheVariants.{End, Refused}
-use Rattle.bayou_wire.specs.declared.frame.Refusal.TheVariants.{OutOfMemory}
+use Rattle.bayou_base.specs.declared.refusal.Refusal.TheVariants.{OutOfMemory}
 use Rattle.bayou_wire.specs.Stream.{spelling}
 use Rattle.bayou_net.proofs.dumping.answer_dump.Goals as goal
 

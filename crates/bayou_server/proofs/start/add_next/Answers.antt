@@ -20,4 +20,6 @@ returns c =
       tags = told
           ∙ ap (λ (t : Option Tag). record old.tags { tags = old.tags.tags ++ stored.tag ∷ []; coming = t; room = c.settle.new.self.room }) (sym c.requires.nothing_comes);
       doubt = refl;
+      taking = refl;
+      together = refl;
     }

@@ -17,6 +17,8 @@ loop-at-init c = record {
   so_far = nothing_so_far c.args.id.index c.args.count c.args.limit c.args.opened.now.bodies c.new.result c.new-2.result.tags c.new.ensures.empty c.new-2.ensures.empty c.new.ensures.count c.new.ensures.limit;
   nothing_comes = c.new-2.ensures.coming;
   no_doubt = refl;
+  none_behind = c.new-3.ensures.items;
+  alone = refl;
 }
 
 pub returns-in_err-add_next : goal.returns-in_err-add_next
@@ -39,6 +41,8 @@ loop-at-preserved c =
       so_far = added_so_far c.args.id.index c.args.count c.args.limit c.loop-at.at c.args.opened.now.bodies holding c.add_next.new.holding (body_in c.version.result c.body.result.now) c.loop-at.invariant.so_far stands added;
       nothing_comes = ap (λ (t : TagList). t.coming) added.tags ∙ c.loop-at.invariant.nothing_comes;
       no_doubt = added.doubt ∙ c.loop-at.invariant.no_doubt;
+      none_behind = ap (λ t. t.items) added.taking ∙ c.loop-at.invariant.none_behind;
+      alone = added.together ∙ c.loop-at.invariant.alone;
     }
 
 pub returns : goal.returns
@@ -55,6 +59,8 @@ returns c =
       tagged = rw c.catch_up.ensures so_far.tagged;
       nothing_comes = c.loop-at.invariant.nothing_comes;
       no_doubt = c.loop-at.invariant.no_doubt;
+      none_behind = c.loop-at.invariant.none_behind;
+      alone = c.loop-at.invariant.alone;
       same_count = ap (λ (log : Log). log.count) c.catch_up.ensures ∙ so_far.same_count;
       same_limit = ap (λ (log : Log). log.limit) c.catch_up.ensures ∙ so_far.same_limit;
       caught_up = ap (λ (log : Log). log.waiting) c.catch_up.ensures;

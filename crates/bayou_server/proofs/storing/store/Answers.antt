@@ -11,7 +11,7 @@ use Rattle.bayou_server.proofs.storing.store.Goals as goal
 
 -- what is held, once room was taken
 reserved : (g : given.Over) → goal.After-drop-body-2 g → Holding
-reserved g c = record { log = c.reserve.new.self; tags = c.reserve-2.new.self; doubt = c.args.holding.now.doubt }
+reserved g c = record { log = c.reserve.new.self; tags = c.reserve-2.new.self; doubt = c.args.holding.now.doubt; taking = c.args.holding.now.taking; together = c.args.holding.now.together }
 
 adds : (g : given.Over) (c : goal.After-drop-body-2 g) → Adds c.args.journal.now c.args.holding.now (reserved g c) c.args.id.index c.args.tag c.args.write c.deref.result.now
 unfolding reserved
@@ -28,6 +28,8 @@ adds g c = record {
   same_log = c.reserve.ensures.same;
   same_tags = c.in_ok-reserve-2.ensures.ok;
   same_doubt = refl;
+  same_taking = refl;
+  same_together = refl;
   has_room = c.in_ok-reserve.ensures.ok;
   has_place = c.in_ok-reserve-2.ensures.room;
 }

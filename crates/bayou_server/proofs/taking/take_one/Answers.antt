@@ -1,4 +1,4 @@
-use Rattle.std.proofs.Common.{None, Ok, subst}
+use Rattle.std.proofs.Common.{None, Ok, ap, subst}
 use Rattle.bayou_server.specs.declared.answer.Took.TheVariants.{New}
 use Rattle.bayou_server.specs.declared.storing.Stored.{Stored}
 use Rattle.bayou_server.specs.declared.storing.Stored.TheVariants.{Held}
@@ -19,6 +19,7 @@ returns-in-Held-clause-takes g c =
       takes = takes;
       own = own_of_taking old.core c.args.write (Ok New) new.core takes;
       sound = (c.requires.sound, c.store.ensures.together.sound);
+      others = ap (λ t. t.items) c.store.ensures.others;
       stores = stores;
       stored = λ modelled. subst (λ (s : Stored). StaysStored g.D.Device old s new) c.in-Held.is (c.in_ok-store.ensures.stored modelled);
       safe = c.store.ensures.safe;

@@ -203,7 +203,7 @@ i64_format = record { takes = takes; again = again }
     again : (number : ℤ) (rest : List ℕ) → IsI64 number → i64_at (i64_bytes number ++ rest) ≡ Some (number, rest)
     again z rest is = rw (number.again (cast_unsigned w64 z) rest (signed_below z is), to_z-of_z w64 z is) refl
 
-byte_format : IsFormat (λ n. n < 256) (λ n. n ∷ []) byte_at
+pub byte_format : IsFormat (λ n. n < 256) (λ n. n ∷ []) byte_at
 byte_format = record { takes = takes; again = λ n rest is. refl }
   where
     takes : (bytes : List ℕ) (x : ℕ × List ℕ) → IsBytes bytes → byte_at bytes ≡ Some x → (x.0 < 256) × (bytes ≡ (x.0 ∷ []) ++ x.1)
@@ -397,7 +397,7 @@ cond_format = record { takes = takes; again = again }
 
 -- ---- lists
 
-times_takes : {T : Type 0} {Is : T → Type 0} {spelling : T → List ℕ} {at : List ℕ → Read T} → IsFormat Is spelling at
+pub times_takes : {T : Type 0} {Is : T → Type 0} {spelling : T → List ℕ} {at : List ℕ → Read T} → IsFormat Is spelling at
     → (n : ℕ) (bytes : List ℕ) (x : List T × List ℕ) → IsBytes bytes → times n at bytes ≡ Some x → (length x.0 ≡ n) × AllByRecursion Is x.0 × (bytes ≡ flat_map spelling x.0 ++ x.1)
 unfolding times
 times_takes {T} {Is} {spelling} {at} format zero bytes x fits e =
@@ -410,7 +410,7 @@ times_takes {T} {Is} {spelling} {at} format (suc n) bytes x fits e =
     let whole : bytes ≡ flat_map spelling (y.0 ∷ z.0) ++ z.1 = t.1 ∙ ap (λ s. spelling y.0 ++ s) u.2 ∙ sym (append_assoc (spelling y.0) (flat_map spelling z.0) z.1) in
     subst (λ (v : List T × List ℕ). (length v.0 ≡ suc n) × AllByRecursion Is v.0 × (bytes ≡ flat_map spelling v.0 ++ v.1)) (same_Some (y.0 ∷ z.0, z.1) x same) (ap suc u.0, (t.0, u.1), whole)))
 
-times_again : {T : Type 0} {Is : T → Type 0} {spelling : T → List ℕ} {at : List ℕ → Read T} → IsFormat Is spelling at
+pub times_again : {T : Type 0} {Is : T → Type 0} {spelling : T → List ℕ} {at : List ℕ → Read T} → IsFormat Is spelling at
     → (members : List T) (rest : List ℕ) → AllByRecursion Is members → times (length members) at (flat_map spelling members ++ rest) ≡ Some (members, rest)
 unfolding times
 times_again format [] rest all = refl

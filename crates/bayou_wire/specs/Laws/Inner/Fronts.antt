@@ -38,7 +38,7 @@ length_at-packed bytes kind payload more p =
     let fits : length payload + 1 < 2 ^ 16 = omega (arith, p.short) in
     ap length_at p.begins ∙ u16_format.again (length payload + 1) (kind ∷ (payload ++ more)) fits
 
-length_at-has : (bytes : List ℕ) (len : ℕ) (h : HasLength bytes len) → length_at bytes ≡ Some (len, h.1.0)
+pub length_at-has : (bytes : List ℕ) (len : ℕ) (h : HasLength bytes len) → length_at bytes ≡ Some (len, h.1.0)
 length_at-has bytes len h = ap length_at h.1.1 ∙ u16_format.again len h.1.0 h.0
 
 -- two readings of one length are one
@@ -188,14 +188,14 @@ length_at-two high low more =
     rw long (ap (λ n. Some (n, more)) (omega arith))
 
 -- less than a frame has no length yet, or fewer bytes behind it than it counts
-partial_length : (bytes : List ℕ) (len : ℕ) (more : List ℕ) → IsPartial bytes → length_at bytes ≡ Some (len, more) → (len ≤ MAX_FRAME_BYTES) × (length more < len)
+pub partial_length : (bytes : List ℕ) (len : ℕ) (more : List ℕ) → IsPartial bytes → length_at bytes ≡ Some (len, more) → (len ≤ MAX_FRAME_BYTES) × (length more < len)
 partial_length [] len more p e = absurd (none-some (len, more) e)
 partial_length (high ∷ []) len more p e = absurd (none-some (len, more) e)
 partial_length (high ∷ low ∷ bytes) len more p e =
     let same = one_length (high ∷ low ∷ bytes) (256 * high + low) len bytes more (length_at-two high low bytes) e in
     (omega (arith, same.0, p.0), omega (arith, same.0, ap length same.1, p.1))
 
-packed_not_partial : (bytes : List ℕ) (kind : ℕ) (payload more : List ℕ) → Packs bytes kind payload more → IsPartial bytes → ⊥
+pub packed_not_partial : (bytes : List ℕ) (kind : ℕ) (payload more : List ℕ) → Packs bytes kind payload more → IsPartial bytes → ⊥
 packed_not_partial bytes kind payload more p partial =
     let l = partial_length bytes (length payload + 1) (kind ∷ (payload ++ more)) partial (length_at-packed bytes kind payload more p) in
     absurd (omega (arith, l.1, length-append payload more))
@@ -219,10 +219,10 @@ partial_not_faulty bytes fault partial f =
       | inr (inr h) ↦ packed_not_partial bytes h.0 h.1 h.2 h.3 partial
     ]
 
-has_one_length : (bytes : List ℕ) (m n : ℕ) → HasLength bytes m → HasLength bytes n → m ≡ n
+pub has_one_length : (bytes : List ℕ) (m n : ℕ) → HasLength bytes m → HasLength bytes n → m ≡ n
 has_one_length bytes m n a b = (one_length bytes m n a.1.0 b.1.0 (length_at-has bytes m a) (length_at-has bytes n b)).0
 
-packed_length : (bytes : List ℕ) (len kind : ℕ) (payload more : List ℕ) → HasLength bytes len → Packs bytes kind payload more → len ≡ length payload + 1
+pub packed_length : (bytes : List ℕ) (len kind : ℕ) (payload more : List ℕ) → HasLength bytes len → Packs bytes kind payload more → len ≡ length payload + 1
 packed_length bytes len kind payload more a p = (one_length bytes len (length payload + 1) a.1.0 (kind ∷ (payload ++ more)) (length_at-has bytes len a) (length_at-packed bytes kind payload more p)).0
 
 begins_has_kind : (kind : ℕ) (payload rest : List ℕ) → PayloadBegins kind payload rest → IsKind kind

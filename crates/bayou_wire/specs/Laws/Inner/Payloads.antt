@@ -12,8 +12,9 @@ use Rattle.bayou_base.specs.declared.value.Value.TheVariants.{Num, Text}
 use Rattle.bayou_base.specs.declared.wid.Wid.{Wid}
 use Rattle.bayou_lang.specs.declared.program.Program.{Program}
 use Rattle.bayou_lang.specs.declared.write.Write.{Write}
-use Rattle.bayou_wire.specs.declared.frame.Refusal.{Refusal}
-use Rattle.bayou_wire.specs.declared.frame.Refusal.TheVariants as refusals
+use Rattle.bayou_base.specs.declared.refusal.TheConstants as refusal_codes
+use Rattle.bayou_base.specs.declared.refusal.Refusal.{Refusal}
+use Rattle.bayou_base.specs.declared.refusal.Refusal.TheVariants as refusals
 use Rattle.bayou_wire.specs.declared.frame.Frame.{Frame}
 use Rattle.bayou_wire.specs.declared.frame.Frame.TheVariants as frames
 use Rattle.bayou_wire.specs.declared.layout.TheConstants as layout
@@ -101,15 +102,15 @@ refusal_format = record { takes = takes; again = again }
     takes (code ∷ bytes) x fits e =
         let is = IsRefusal in
         let spells = refusal_bytes in
-        link code layout.CODE_DOWN _ _ x e (λ same here. bare_takes is spells layout.CODE_DOWN refusals.Down tt refl code bytes x same here) (λ e.
-        link code layout.CODE_BEHIND _ _ x e (λ same here. case_takes is spells layout.CODE_BEHIND refusals.Behind vector_format (λ y is. is) (λ y. refl) code bytes x fits same here) (λ e.
-        link code layout.CODE_LOG_FULL _ _ x e (λ same here. bare_takes is spells layout.CODE_LOG_FULL refusals.LogFull tt refl code bytes x same here) (λ e.
-        link code layout.CODE_JOURNAL _ _ x e (λ same here. bare_takes is spells layout.CODE_JOURNAL refusals.Journal tt refl code bytes x same here) (λ e.
-        link code layout.CODE_NOT_DOWN _ _ x e (λ same here. bare_takes is spells layout.CODE_NOT_DOWN refusals.NotDown tt refl code bytes x same here) (λ e.
-        link code layout.CODE_BAD_RECORD _ _ x e (λ same here. case_takes is spells layout.CODE_BAD_RECORD refusals.BadRecord u32_format (λ y is. is) (λ y. refl) code bytes x fits same here) (λ e.
-        link code layout.CODE_LOST _ _ x e (λ same here. bare_takes is spells layout.CODE_LOST refusals.Lost tt refl code bytes x same here) (λ e.
-        link code layout.CODE_OUT_OF_MEMORY _ _ x e (λ same here. bare_takes is spells layout.CODE_OUT_OF_MEMORY refusals.OutOfMemory tt refl code bytes x same here) (λ e.
-        link code layout.CODE_TAG_USED _ _ x e (λ same here. bare_takes is spells layout.CODE_TAG_USED refusals.TagUsed tt refl code bytes x same here) (λ none.
+        link code refusal_codes.CODE_DOWN _ _ x e (λ same here. bare_takes is spells refusal_codes.CODE_DOWN refusals.Down tt refl code bytes x same here) (λ e.
+        link code refusal_codes.CODE_BEHIND _ _ x e (λ same here. case_takes is spells refusal_codes.CODE_BEHIND refusals.Behind vector_format (λ y is. is) (λ y. refl) code bytes x fits same here) (λ e.
+        link code refusal_codes.CODE_LOG_FULL _ _ x e (λ same here. bare_takes is spells refusal_codes.CODE_LOG_FULL refusals.LogFull tt refl code bytes x same here) (λ e.
+        link code refusal_codes.CODE_JOURNAL _ _ x e (λ same here. bare_takes is spells refusal_codes.CODE_JOURNAL refusals.Journal tt refl code bytes x same here) (λ e.
+        link code refusal_codes.CODE_NOT_DOWN _ _ x e (λ same here. bare_takes is spells refusal_codes.CODE_NOT_DOWN refusals.NotDown tt refl code bytes x same here) (λ e.
+        link code refusal_codes.CODE_BAD_RECORD _ _ x e (λ same here. case_takes is spells refusal_codes.CODE_BAD_RECORD refusals.BadRecord u32_format (λ y is. is) (λ y. refl) code bytes x fits same here) (λ e.
+        link code refusal_codes.CODE_LOST _ _ x e (λ same here. bare_takes is spells refusal_codes.CODE_LOST refusals.Lost tt refl code bytes x same here) (λ e.
+        link code refusal_codes.CODE_OUT_OF_MEMORY _ _ x e (λ same here. bare_takes is spells refusal_codes.CODE_OUT_OF_MEMORY refusals.OutOfMemory tt refl code bytes x same here) (λ e.
+        link code refusal_codes.CODE_TAG_USED _ _ x e (λ same here. bare_takes is spells refusal_codes.CODE_TAG_USED refusals.TagUsed tt refl code bytes x same here) (λ none.
         absurd (none-some x none))))))))))
 
     again : (refusal : Refusal) (rest : List ℕ) → IsRefusal refusal → refusal_at (refusal_bytes refusal ++ rest) ≡ Some (refusal, rest)

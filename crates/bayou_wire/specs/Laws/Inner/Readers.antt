@@ -37,7 +37,7 @@ position_none p xs none i within =
       | inr le ↦ prefix_len_passes (λ x. not (p x)) xs i 0 (omega arith)
     ]
 
-key_is_ascii : (key : List ℕ) → key_fault key ≡ None → IsAscii key
+pub key_is_ascii : (key : List ℕ) → key_fault key ≡ None → IsAscii key
 key_is_ascii key fault i =
     elim (cases_lt i (length key)) [
       | inl lt ↦ key_byte_is_ascii (get_or key i 0) (position_none (λ b. not (is_key_byte b)) key (grind (arith, nat_tests)) i lt)

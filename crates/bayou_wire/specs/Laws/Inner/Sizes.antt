@@ -22,8 +22,8 @@ use Rattle.bayou_lang.specs.declared.program.Term.TheVariants.{Lit, Copy, Plus}
 use Rattle.bayou_lang.specs.declared.write.Write.{Write}
 use Rattle.bayou_wire.specs.declared.frame.Frame.{Frame}
 use Rattle.bayou_wire.specs.declared.frame.Frame.TheVariants as frames
-use Rattle.bayou_wire.specs.declared.frame.Refusal.{Refusal}
-use Rattle.bayou_wire.specs.declared.frame.Refusal.TheVariants as refusals
+use Rattle.bayou_base.specs.declared.refusal.Refusal.{Refusal}
+use Rattle.bayou_base.specs.declared.refusal.Refusal.TheVariants as refusals
 use Rattle.bayou_wire.specs.declared.layout.TheConstants.{LENGTH_BYTES, TAG_BYTES}
 use Rattle.bayou_lang.specs.Ranges.{IsKey, IsPrefix, IsValue, IsTerm, IsOp, IsCond, AreAtMost, IsAlt, IsProgram, IsWrite}
 use Rattle.bayou_wire.specs.Laws.Inner.Vectors.{length-vector_bytes}

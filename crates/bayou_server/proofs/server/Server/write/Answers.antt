@@ -11,6 +11,7 @@ use Rattle.bayou_server.specs.Inner.Storing.{Keeps, StaysStored}
 use Rattle.bayou_server.specs.Server.{Core}
 use Rattle.bayou_server.specs.Stored.{IsStored}
 use Rattle.bayou_server.specs.Writes.{Makes, Writes}
+use Rattle.bayou_server.proofs.Adding.{caught_up_together}
 use Rattle.bayou_server.proofs.Steps.{next_may_be_stored, own_of_write}
 use Rattle.bayou_server.proofs.server.Server.write.Goals as goal
 use Rattle.bayou_server.proofs.server.Server.write.Goals.{in-Held, in-InDoubt}
@@ -67,7 +68,7 @@ returns-clause-stored g c = λ modelled.
     let same : core_of (record c.store-stored.new.holding { log = c.catch_up.new.self }) inside.id.index ≡ new.core =
     ap (λ (log : Log). core_of (record c.store-stored.new.holding { log = log }) inside.id.index) c.catch_up.ensures in
     rw (← c.self.view_is)
-    (subst (λ (core : Core). OnOk c.match-branch-3.result (IsStored g.D.Device old → IsStored g.D.Device (record { core = core; device = new.device; last = new.last }))) (sym same)
+    (subst (λ (core : Core). OnOk c.match-branch-3.result (IsStored g.D.Device old → IsStored g.D.Device (record { core = core; device = new.device; last = new.last; taking = new.taking }))) (sym same)
     (elim c.match-branch-3.branch [
       | in-Held w ↦
           let stays : StaysStored g.D.Device old Held new = subst (λ (s : Stored). StaysStored g.D.Device old s new) w.in-Held.is (c.in_ok-stored.ensures.stored modelled) in
@@ -77,3 +78,7 @@ returns-clause-stored g c = λ modelled.
 
 pub returns-clause-safe : goal.returns-clause-safe
 returns-clause-safe g c = rw (← c.self.view_is) c.store-stored.ensures.safe
+
+pub invariant_of-self-2 : goal.invariant_of-self-2
+invariant_of-self-2 g c =
+    caught_up_together c.store-stored.new.journal c.store-stored.new.holding c.catch_up.new.self c.self.inside.id.index c.store-stored.ensures.together c.catch_up.ensures

@@ -17,5 +17,5 @@ returns-in-Ok-clause-fresh c =
       core = starts.is
           ∙ ap (λ (held : List Write). record { id = id; count = count; limit = limit; held = held; tags = server.core.tags; doubt = None; doubt_tag = None }) none.0
           ∙ ap (λ (tags : List (Option Tag)). record { id = id; count = count; limit = limit; held = []; tags = tags; doubt = None; doubt_tag = None }) none.1;
-      kept = c.a_start_on_an_honest_device_is_honest.ensures.whole id count limit _ _ server tt starts opens;
+      kept = record { honest = c.a_start_on_an_honest_device_is_honest.ensures.whole id count limit _ _ server tt starts opens; alone = c.in-Ok.ensures.others };
     }

@@ -20,7 +20,7 @@ returns-in-Ok-clause-starts c kept =
     let opens = subst (λ (d : Memory). StartsOn memory_device d server c.in-Ok.field-0-1) c.stop-device.ensures.device c.in-Ok.ensures.opens in
     let law = c.a_start_on_an_honest_device_is_honest.ensures in (
       (refl, ap length c.receipts-holds.ensures.value, starts.is, starts.sound, law.records old _ _ server tt left.sound left.honest starts opens),
-      law.whole old.id old.count old.limit _ _ server tt starts opens,
+      record { honest = law.whole old.id old.count old.limit _ _ server tt starts opens; alone = c.in-Ok.ensures.others },
     )
 
 pub returns-in-Err-clause-starts : goal.returns-in-Err-clause-starts

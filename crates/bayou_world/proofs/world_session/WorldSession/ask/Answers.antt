@@ -1,4 +1,4 @@
-use Rattle.std.proofs.Common.{subst}
+use Rattle.std.proofs.Common.{◌∙◌, subst}
 use Rattle.bayou_server.specs.Writes.{Writes}
 use Rattle.bayou_world.specs.Inner.WorldSessions.{IsAnswered, accepted_as, accepted_of}
 use Rattle.bayou_world.proofs.Charging.{wrote_spends}
@@ -22,4 +22,7 @@ pub returns-clause-honest : goal.returns-clause-honest
 returns-clause-honest c honest =
     let write = c.write-answer.ensures in
     let memory = c.a_device_in_memory_only_tears.ensures in
-    c.an_honest_server_stays_honest.ensures.written _ _ _ c.write-answer.result c.args.server.now c.write-answer.new.self memory write.sound.0 write.sound.1 honest write.writes write.stores (write.safe memory.modelled)
+    record {
+      honest = c.an_honest_server_stays_honest.ensures.written _ _ _ c.write-answer.result c.args.server.now c.write-answer.new.self memory write.sound.0 write.sound.1 honest.honest write.writes write.stores (write.safe memory.modelled);
+      alone = write.others ∙ honest.alone;
+    }

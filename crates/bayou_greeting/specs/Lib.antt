@@ -1,0 +1,6 @@
+pub mod Greets
+pub mod Hmac
+pub mod Laws
+pub mod OriginDigests
+pub mod Proofs
+pub mod StoreKeys

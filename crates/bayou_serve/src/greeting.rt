@@ -1,0 +1,235 @@
+//! Greetings of a server that lives: of whoever asks it, and of the peers that it asks.
+ghost use Rattle.std.specs.Prelude.{◌≡◌, ◌↔◌, ℕ, IfOk, IfSome, IsTrue, List, None, Option, Some, false, true};
+ghost use Rattle.std.specs.Io.KnownBytes.{Consumes};
+ghost use Rattle.bayou_handshake.specs.Ends.{IsKnownServer, IsLetIn};
+ghost use Rattle.bayou_serve.specs.Greeting.{hello_to};
+
+use crate::hall::Hall;
+use crate::peers::reach;
+use crate::plan::{Peer, Plan};
+use crate::waiting::{Most, Since, Waiting};
+use bayou_base::ServerId;
+use bayou_base::limits::GREETING_MILLISECONDS;
+use bayou_greeting::Stranger;
+use bayou_handshake::{GreetingFault, Guest, StoreServer, greet_server, make_known, receive};
+use bayou_net::Sockets;
+use bayou_streams::{CountedChannel, Patient};
+use bayou_wire::layout::{GREETING_VERSION, NONCE_BYTES};
+use bayou_wire::{Hello, Known, Nonce, ServerCount};
+use std::alloc::{AllocError, Global};
+use std::io::{Read, Write};
+use std::net::TcpStream;
+use std::random::RandomSource;
+use std::time::Clock;
+
+// A number for one greeting, if one can be drawn.
+fn drawn<T: RandomSource>(rt: &T) -> Option<Nonce> {
+    let mut bytes = [0; NONCE_BYTES];
+    if rt.fill_bytes(&mut bytes).is_err() {
+        return None;
+    }
+    Some(Nonce::new(bytes))
+}
+
+/// What the server of this plan goes by in greetings: its store is an open one.
+pub(crate) fn store_server(plan: &Plan) -> StoreServer
+    ensures id { result.id ≡ plan.now.id }
+    ensures servers { result.servers.count ≡ plan.now.servers }
+    ensures key { result.key ≡ None }
+{
+    let Some(servers) = ServerCount::new(plan.servers) else {
+        unreachable!();
+    };
+    StoreServer {
+        id: plan.id,
+        servers,
+        key: None,
+    }
+}
+
+// Greets who asks over these streams, whose waits end by `WouldBlock`, with this number: who it is, once it is let in.
+fn receive_over<'x, R: Read + Drop, W: Write + Drop, C: Clock>(
+    alloc: Global,
+    own: &StoreServer,
+    nonce: Nonce,
+    hall: &'x Hall,
+    clock: &'x C,
+    since: &'x Since,
+    reader: R,
+    writer: W,
+) -> Option<Guest>
+    ensures { IfSome result (λ guest. (rest : Option (List ℕ)) × (read written : List ℕ) × Consumes (R.remaining reader) rest read
+        × IsLetIn own.now nonce read written guest) }
+{
+    let most = Most::Milliseconds(GREETING_MILLISECONDS);
+    let reader = Patient::new(reader, Waiting::new(clock, hall, since, most));
+    let mut channel = CountedChannel::new(reader, writer);
+    receive(alloc, own, nonce, &mut channel).ok()
+}
+
+/// Greets who asks over this connection, as this server: who it is, once it is let in and was told what is held.
+pub(crate) fn receive_guest<C: Clock + RandomSource>(
+    alloc: Global,
+    own: &StoreServer,
+    known: Known,
+    hall: &Hall,
+    clock: &C,
+    stream: &TcpStream,
+) -> Option<Guest> {
+    let nonce = drawn(clock)?;
+    let since = Since::now(clock);
+    let guest = receive_over(alloc, own, nonce, hall, clock, &since, stream, stream)?;
+    make_known(alloc, known, &mut CountedChannel::new((), stream)).ok()?;
+    Some(guest)
+}
+
+// How this server greets that peer.
+fn hello(own: &StoreServer, peer: ServerId, nonce: Nonce) -> Hello
+    ensures { result ≡ hello_to own.now peer nonce }
+{
+    Hello {
+        version: GREETING_VERSION,
+        asked: Some(peer),
+        from: Some(own.id),
+        servers: Some(own.servers),
+        nonce,
+    }
+}
+
+// Greets the peer over these streams, whose waits end by `WouldBlock`.
+fn greet_over<'x, R: Read + Drop, W: Write + Drop, C: Clock>(
+    alloc: Global,
+    own: &StoreServer,
+    hello: &Hello,
+    hall: &'x Hall,
+    clock: &'x C,
+    since: &'x Since,
+    reader: R,
+    writer: W,
+) -> Result<Known, GreetingFault>
+    ensures { IfOk result (λ known. (rest : Option (List ℕ)) × (read written : List ℕ) × Consumes (R.remaining reader) rest read
+        × IsKnownServer hello.now own.now.key None read written known) }
+{
+    let most = Most::Milliseconds(GREETING_MILLISECONDS);
+    let reader = Patient::new(reader, Waiting::new(clock, hall, since, most));
+    let mut channel = CountedChannel::new(reader, writer);
+    greet_server(alloc, hello, &own.key, None, &mut channel)
+}
+
+/// A way to a peer.
+#[derive(Drop)]
+pub(crate) enum Way {
+    /// No connection came about, or no greeting.
+    Away,
+    /// Who answers there isn't that peer.
+    Stranger(Stranger),
+    /// It is that peer, which waits for a request. An older one knows no greetings.
+    Open {
+        stream: TcpStream,
+        is_older: bool,
+    },
+}
+
+// Greets the peer over this connection.
+fn greet_at<T: Clock + RandomSource>(
+    rt: &T,
+    alloc: Global,
+    own: &StoreServer,
+    peer: Peer,
+    hall: &Hall,
+    stream: &TcpStream,
+) -> Result<Known, GreetingFault> {
+    let Some(nonce) = drawn(rt) else {
+        return Err(GreetingFault::TurnedAway);
+    };
+    let since = Since::now(rt);
+    let hello = hello(own, peer.id, nonce);
+    greet_over(alloc, own, &hello, hall, rt, &since, stream, stream)
+}
+
+/// A way to the peer, which is greeted first. An older one is asked all the same, over a connection of its own.
+pub(crate) fn way_to<T: Clock + RandomSource + Sockets>(
+    rt: &T,
+    alloc: Global,
+    own: &StoreServer,
+    peer: Peer,
+    hall: &Hall,
+) -> Way {
+    let Some(stream) = reach(rt, peer) else {
+        return Way::Away;
+    };
+    match greet_at(rt, alloc, own, peer, hall, &stream) {
+        Ok(_) => Way::Open {
+            stream,
+            is_older: false,
+        },
+        Err(GreetingFault::Stranger(Stranger::Older)) => older_way_to(rt, peer),
+        Err(GreetingFault::Stranger(stranger)) => Way::Stranger(stranger),
+        Err(_) => Way::Away,
+    }
+}
+
+// A way to a peer that knows no greetings.
+fn older_way_to<T: Sockets>(rt: &T, peer: Peer) -> Way {
+    match reach(rt, peer) {
+        Some(stream) => Way::Open {
+            stream,
+            is_older: true,
+        },
+        None => Way::Away,
+    }
+}
+
+/// What was told of a peer beside its visits: who answered in its place, and that it is older.
+#[derive(Drop)]
+pub(crate) struct Strangers {
+    last: Option<Stranger>,
+    is_older: bool,
+}
+
+impl Strangers {
+    /// Of a peer of which nothing was told yet.
+    pub(crate) fn new() -> Self
+        ensures { (result.last ≡ None) × (result.is_older ≡ false) }
+    {
+        Strangers {
+            last: None,
+            is_older: false,
+        }
+    }
+
+    /// Another answered: whether that is news.
+    pub(crate) fn met(&mut self, stranger: &Stranger) -> bool
+        ensures older { self.new.is_older ≡ self.old.is_older }
+        ensures news { result ≡ true → self.new.last ≡ Some stranger.now }
+        ensures known { result ≡ false → self.new ≡ self.old }
+    {
+        if self.last.as_ref() == Some(stranger) {
+            return false;
+        }
+        self.last = Some(stranger.copy());
+        true
+    }
+
+    /// The peer itself answered, older or not: whether it is news that it is older.
+    pub(crate) fn met_itself(&mut self, is_older: bool) -> bool
+        ensures last { self.new.last ≡ None }
+        ensures older { self.new.is_older ≡ is_older }
+        ensures news { IsTrue result ↔ ((is_older ≡ true) × (self.old.is_older ≡ false)) }
+    {
+        let is_news = is_older && !self.is_older;
+        self.last = None;
+        self.is_older = is_older;
+        is_news
+    }
+}
+
+/// The line of who answered in place of a peer.
+pub(crate) fn stranger_line(
+    alloc: Global,
+    peer: Peer,
+    stranger: &Stranger,
+) -> Result<String, AllocError> {
+    let (id, address) = (peer.id.index, peer.address);
+    format!(in alloc; "bayou: peer {id} at {address} {stranger}\n")
+}
