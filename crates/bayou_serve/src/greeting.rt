@@ -124,10 +124,7 @@ pub(crate) enum Way {
     /// Who answers there isn't that peer.
     Stranger(Stranger),
     /// It is that peer, which waits for a request. An older one knows no greetings.
-    Open {
-        stream: TcpStream,
-        is_older: bool,
-    },
+    Open { stream: TcpStream, is_older: bool },
 }
 
 // Greets the peer over this connection.
