@@ -3,20 +3,23 @@ _bayou() {
     local word=${COMP_WORDS[COMP_CWORD]} before=${COMP_WORDS[COMP_CWORD - 1]} command='' words
     [ "$COMP_CWORD" -lt 2 ] || command=${COMP_WORDS[1]}
     case $command in
-        '') words='run net audit serve connect help -h --help -V --version' ;;
+        '') words='run net audit serve connect key help -h --help -V --version' ;;
         run | audit) words='-h --help' ;;
         net) words='--dir -h --help' ;;
         serve)
-            words='--id --servers --dir --listen --peer --every --limit --connections --idle'
+            words='--id --servers --dir --listen --peer --key --every --limit --connections --idle'
             words+=' --until-input-ends --new --restore --anyone -h --help'
             ;;
-        connect) words='--server --servers --session --state --book --wait --timeout -h --help' ;;
-        help) words='run net audit serve connect help' ;;
+        connect) words='--server --servers --session --key --state --book --wait --timeout -h --help' ;;
+        key) words='--name -h --help' ;;
+        help) words='run net audit serve connect key help' ;;
         *) words='' ;;
     esac
     COMPREPLY=()
     if [[ $command$before == @(net|serve)--dir ]]; then
         mapfile -t COMPREPLY < <(compgen -d -- "$word")
+    elif [[ $command$before == serve--key ]]; then
+        mapfile -t COMPREPLY < <(compgen -f -- "$word")
     elif [[ $word == -* || -z $command || $command == @(help|serve) ]]; then
         mapfile -t COMPREPLY < <(compgen -W "$words" -- "$word")
     else

@@ -793,6 +793,40 @@ class Tries:
         self.that("is greeted, and then asked", [came[0] for came in older.came if came is not None], [HELLO, 0x01])
         older.end()
 
+    def keyed(self):
+        """A store that has a key: who has it is served, a server that hasn't got it is told and sent nothing, and a state is of one store."""
+        folder = self.folder()
+        paths = {}
+        for name in ("room", "other"):
+            paths[name] = os.path.join(folder, name + ".key")
+            subprocess.run([self.program, "key", paths[name], "--name", name], stdout=subprocess.DEVNULL, check=True, timeout=SECONDS)
+        keyed, opened = self.start(folder, words=["--key", paths["room"]]), self.start(self.folder())
+        at, at_open = [(0, keyed.address())], [(0, opened.address())]
+        state = os.path.join(folder, "kim.state")
+        own, other = ["--key", paths["room"]], ["--key", paths["other"]]
+        self.row("who has the key", at, ["put a 1", "get a", "servers"], ["0 wrote 0:1 clock 1 deps 0", "0 read a num 1 at 1", "server 0 at 1 holds 1 of 65536"], words=own + ["--state", state])
+        line = "bayou: server 0 at %s %%s" % keyed.address()
+        self.row("who has none", at, ["put a 2", "get a"], ["0 refused away"] * 2, 1, [line % "wants a key"])
+        self.row("who has another", at, ["put a 2"], ["0 refused away"], 1, [line % "is of another store (room)"], other)
+        self.row("a key at an open store", at_open, ["put a 2"], ["0 refused away"], 1, ["bayou: server 0 at %s is of another store, an open one" % opened.address()], own)
+        for where, words in ((at, own), (at_open, [])):
+            self.row("nothing was sent", where, ["get a"], ["0 read a %s" % ("num 1 at 1" if where is at else "none at 0")], words=words)
+        older = Answering(b"")
+        self.row("an older server", [(0, "127.0.0.1:%d" % older.port)], ["get a"], ["0 refused away"], 1, ["bayou: server 0 at 127.0.0.1:%d is older: no greeting" % older.port], own)
+        self.that("is greeted, and sent nothing", [came[0] for came in older.came if came is not None], [HELLO])
+        older.end()
+        for name, where, words in (("no key", at, []), ("no key, at an open store", at_open, []), ("another key", at, other)):
+            with open(state, "rb") as file:
+                before = file.read()
+            self.row("that state with " + name, where, ["get a"], [], 3, ["bayou: %s: it is of the store room; give its key by --key" % state], words + ["--state", state])
+            with open(state, "rb") as file:
+                self.that("it isn't changed", file.read(), before)
+        self.row("that state with its key", at, ["session"], ["session 0 asks none", "session 0 read 1 wrote 1"], words=own + ["--state", state])
+        open_state = os.path.join(folder, "lee.state")
+        self.row("a state of an open store", at_open, ["put b 1"], ["0 wrote 0:1 clock 1 deps 0"], words=["--state", open_state])
+        self.that("has no label", os.path.exists(open_state + ".store"), False)
+        self.stop_all()
+
     def calendar(self):
         """The day of examples/calendar: three servers, each apart in turn, and what a person prints at each."""
         folder = self.folder()
@@ -839,7 +873,7 @@ class Tries:
         self.that("server %d is apart again" % to, again.serving() is not None)
 
 
-GROUPS = ["words", "lines", "values", "claims", "additions", "words_of_lines", "silent", "dripped", "unbelievable", "late", "turns", "lost", "asks", "lists", "guarantees_alone", "kept", "grown", "killed", "guarantees", "drawn", "strangers", "calendar"]
+GROUPS = ["words", "lines", "values", "claims", "additions", "words_of_lines", "silent", "dripped", "unbelievable", "late", "turns", "lost", "asks", "lists", "guarantees_alone", "kept", "grown", "killed", "guarantees", "drawn", "strangers", "keyed", "calendar"]
 
 
 def main():

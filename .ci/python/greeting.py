@@ -5,8 +5,10 @@ import random
 import socket
 import sys
 import threading
+import time
 
 import frames
+import older
 from living import SECONDS, Server
 from meeting import HELLO, KNOWN, PROOF, WELCOME, free_port, soon
 
@@ -17,8 +19,8 @@ VERSION = 1
 NONCE = bytes(range(16))
 NO_PROOF = bytes(32)
 ANYBODY = 255
-# How many streams of bytes that are no greeting a server is sent.
-HOSTILE = 400
+# How many greetings with wrong bytes a server is sent, and how many in the group that is only tried where it is named.
+HOSTILE, ALL_HOSTILE = 400, 100_000
 
 
 def hello(asked=ANYBODY, own=ANYBODY, count=0, version=VERSION):
@@ -107,7 +109,7 @@ class Greeting:
             session.write({"update": [["put", "a", 1]]})
         self.welcomes(server)
         self.cuts(server)
-        self.hostile(server)
+        self.hostile(server, HOSTILE)
         with bayou.Session([server.address()]) as session:
             self.that("who greets nobody is served still", session.read("a"), 1)
         self.that("a told end behind greetings", server.end()[0], 0)
@@ -133,10 +135,10 @@ class Greeting:
                 told = reply(connection)
                 self.that("a greeting of %d bytes" % count, told is None if count < len(hello(0)) else told[0] == WELCOME and reply(connection) is None)
 
-    def hostile(self, server):
+    def hostile(self, server, count):
         drawn = random.Random(7)
         answered = 0
-        for _ in range(HOSTILE):
+        for _ in range(count):
             text = bytearray(hello(0) + proof())
             for _ in range(drawn.randrange(1, 4)):
                 text[drawn.randrange(2, len(text))] = drawn.randrange(256)
@@ -144,7 +146,20 @@ class Greeting:
                 send_last(connection, bytes(text))
                 told = reply(connection)
                 answered += told is not None
-        self.that("some of %d greetings with wrong bytes are answered" % HOSTILE, 0 < answered < HOSTILE)
+        self.that("some of %d greetings with wrong bytes are answered" % count, 0 < answered < count)
+
+    def all_hostile(self):
+        """So many hostile greetings at an open store and at one with a key: both serve as before, and hold what they held."""
+        path = self.key()
+        for name, key in (("an open store", None), ("a store with a key", path)):
+            server = Server(self.program, self.folder(), 0, servers=1, new=True, words=["--key", key] * (key is not None))
+            server.serving()
+            with bayou.Session([server.address()], key=key) as session:
+                session.write({"update": [["put", "a", 1]]})
+                self.hostile(server, ALL_HOSTILE)
+                self.that(name + " serves still", (session.read("a"), session.seen[0]), (1, 1))
+            self.that(name + " told nothing", server.told.all(), [])
+            self.that("a told end of " + name, server.end()[0], 0)
 
     def mistaken_peers(self):
         """A typo in --peer, and unequal numbers of servers: told at both ends, and nothing is pulled."""
@@ -167,6 +182,67 @@ class Greeting:
                 self.that("nothing is pulled behind " + name, (session.read("a"), session.seen[0]), (None, 0))
         for server in (typo, unequal, first):
             self.that("a told end of mistaken peers", server.end()[0], 0)
+
+    def one_more_server(self):
+        """A store of two servers becomes one of three. While that is half done, nothing is pulled between the two numbers, which both ends tell."""
+        ports, folders = [free_port() for _ in range(3)], [self.folder() for _ in range(3)]
+
+        def start(index, count, new=False):
+            peers = [(peer, ports[peer]) for peer in range(count) if peer != index]
+            server = Server(self.program, folders[index], index, servers=count, port=ports[index], peers=peers, new=new)
+            self.that("server %d of %d" % (index, count), server.serving() is not None or server.told.all())
+            return server
+
+        def write(index, number):
+            with bayou.Session(addresses) as session:
+                session.write({"update": [["put", "k%d" % number, number]]}, index)
+
+        def held(count):
+            with bayou.Session(addresses) as session:
+                return [[session.read("k%d" % number, index) for number in range(count)] for index in range(len(servers))]
+
+        addresses = ["127.0.0.1:%d" % port for port in ports]
+        servers = [start(0, 2, True), start(1, 2, True)]
+        write(0, 0)
+        write(1, 1)
+        self.that("two servers agree", soon(lambda: held(2) == [[0, 1]] * 2), True)
+        self.that("a told end of the first of two", servers[0].end()[0], 0)
+        servers[0] = start(0, 3)
+        line = r"bayou: peer %d at 127\.0\.0\.1:%d counts %d servers, this one %d: stop all, and start all with one --servers"
+        self.that("half done, told by the one", servers[0].told.find(line % (1, ports[1], 2, 3), SECONDS) is not None)
+        self.that("and by the other", servers[1].told.find(line % (0, ports[0], 3, 2), SECONDS) is not None)
+        write(0, 2)
+        write(1, 3)
+        time.sleep(2.5)
+        self.that("nothing is pulled", held(4), [[0, 1, 2, None], [0, 1, None, 3]])
+        self.that("told ends of both", [server.end()[0] for server in servers], [0, 0])
+        servers = [start(0, 3), start(1, 3), start(2, 3, True)]
+        write(2, 4)
+        self.that("three servers agree", soon(lambda: held(5) == [[0, 1, 2, 3, 4]] * 3), True)
+        self.that("told ends of three", [server.end()[0] for server in servers], [0, 0, 0])
+
+    def older_clients(self):
+        """A client that knows no greetings: at an open store it goes on as ever, and at one with a key nothing of what it asks is done."""
+        opened = Server(self.program, self.folder(), 0, servers=1, new=True)
+        opened.serving()
+        with older.Session([opened.address()], asks=["ryw", "mr", "wfr", "mw"]) as session:
+            for number in (2, 3):
+                session.write({"update": [["put", "n", number]]})
+            self.that("an older client reads what it wrote", (session.read("n"), session.seen[0]), (3, 2))
+        self.that("a told end behind an older client", opened.end()[0], 0)
+        path = self.key()
+        keyed = Server(self.program, self.folder(), 0, servers=1, new=True, words=["--key", path])
+        keyed.serving()
+        for name, ask in (("writes", lambda session: session.write({"update": [["put", "a", 1]]})), ("reads", lambda session: session.read("a"))):
+            with older.Session([keyed.address()]) as session:
+                try:
+                    told = ask(session)
+                except older.BayouError as error:
+                    told = type(error)
+                self.that("an older client that %s at a store with a key" % name, told, older.Lost)
+        with bayou.Session([keyed.address()], key=path) as session:
+            self.that("nothing was done of that", (session.read("a"), session.seen[0]), (None, 0))
+        self.that("a told end of a store with a key", keyed.end()[0], 0)
 
     def older_peers(self):
         """A peer that knows no greetings is pulled from all the same, and that is told once; one that answers otherwise is away."""

@@ -1,6 +1,7 @@
 """What was told is kept, tried from outside. Call: kept.py PROGRAM [GROUP..]."""
 import itertools
 import os
+import re
 import signal
 import subprocess
 import sys
@@ -89,6 +90,7 @@ class Tries:
             self.closed_serve(subset, name)
             self.closed_connect(subset, name)
             self.closed_net(subset, name)
+            self.closed_key(subset, name)
             self.closed_others(subset, name)
 
     def closed_serve(self, subset, name):
@@ -131,6 +133,12 @@ class Tries:
         status = self.call(["net", "--dir", folder, script], b"", subset)[0]
         self.that("net ends well " + name, status, 0)
         self.that("the journals of net have their Writes and nothing else " + name, [left_behind(os.path.join(folder, "server-%d.journal" % index)) for index in range(2)], [(5, 0), (0, 0)])
+
+    def closed_key(self, subset, name):
+        path = os.path.join(self.folder(), "store.key")
+        self.that("key ends well " + name, self.call(["key", path, "--name", "room"], b"", subset)[0], 0)
+        with open(path) as file:
+            self.that("its file has the key and nothing else " + name, re.fullmatch(r"bayou-key-1 room [0-9a-f]{64}\n", file.read()) is not None)
 
     def closed_others(self, subset, name):
         script = os.path.join(self.room, "closed.script")

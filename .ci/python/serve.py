@@ -15,8 +15,10 @@ import time
 
 import frames
 from checks import Checks
+from differing import Differing
 from greeting import Greeting
 from holding import Holding
+from keys import Keys
 from living import SECONDS, Server, slowness
 from meeting import Fake, count_of, dump_of, ended, free_port, items, soon, struct_of
 
@@ -30,7 +32,7 @@ def numbered(number):
     return {"update": [["put", "k%03d" % (number % 500), number]]}
 
 
-class Tries(Holding, Greeting):
+class Tries(Holding, Greeting, Keys, Differing):
     def __init__(self, program, kills, room):
         self.program, self.kills, self.room, self.checks = program, kills, room, Checks()
 
@@ -622,7 +624,7 @@ def asked_again(session, stop):
     return None
 
 
-GROUPS = ["words", "guards", "clients", "repeats", "patience", "strangers", "short_connections", "crowds", "peers", "hanging", "restores", "full_disk", "dumps", "together", "bad_peers_at_start", "offers_while_starting", "descriptors", "strays", "greetings", "mistaken_peers", "older_peers", "late", "written_to_steadily", "fair", "killed"]
+GROUPS = ["words", "guards", "clients", "repeats", "patience", "strangers", "short_connections", "crowds", "peers", "hanging", "restores", "full_disk", "dumps", "together", "bad_peers_at_start", "offers_while_starting", "descriptors", "strays", "greetings", "mistaken_peers", "one_more_server", "older_peers", "older_clients", "old_copies", "one_number", "liars", "alike", "keys", "let_in", "labels", "keyed_peers", "late", "written_to_steadily", "fair", "killed"]
 
 
 def main():

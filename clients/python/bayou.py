@@ -10,7 +10,10 @@ A session keeps what it wrote and read as two vectors, and so is never served an
 several threads at once. Servers are those of `bayou serve` (docs/SERVE.md); the bytes are those of docs/PROTOCOL.md and docs/FORMATS.md.
 """
 import contextlib
+import hmac
+import os
 import random
+import re
 import socket
 import struct
 import time
@@ -28,6 +31,9 @@ ASKS = ("ryw", "mr", "wfr", "mw")
 
 _READ, _REOPEN, _DUMP, _WRITE = 0x01, 0x03, 0x04, 0x06
 _SEEN, _ACCEPTED, _REFUSED, _REOPENED, _ITEM, _END = 0x11, 0x12, 0x13, 0x14, 0x15, 0x16
+_HELLO, _PROOF, _WELCOME, _KNOWN = 0x20, 0x21, 0x30, 0x31
+# The version of greetings that is spoken; what a Hello says where any server is asked, or a client asks; how many bytes a nonce and a proof have.
+_VERSION, _ANY, _NONCE, _PROVED = 1, 255, 16, 32
 _KEY_BYTES = frozenset(b"abcdefghijklmnopqrstuvwxyz0123456789._-/")
 _ZERO = (0,) * SERVERS
 _MAX_COUNT = 65_536
@@ -50,6 +56,10 @@ class BadRequest(BayouError, ValueError):
 
 class Away(BayouError):
     """No connection to the server came about. Nothing was sent."""
+
+
+class Stranger(Away):
+    """Who answers isn't the server that was asked for, or doesn't prove that it has the key. No request was sent."""
 
 
 class Lost(BayouError):
@@ -201,6 +211,22 @@ def _frame(kind, payload=b""):
     return struct.pack(">HB", len(payload) + 1, kind) + payload
 
 
+class Key:
+    """The key of a store, in the file of this name, as `bayou key` makes it: the store's name and its secret."""
+
+    def __init__(self, path):
+        with open(path, "rb") as file:
+            text = file.read(256)
+        found = re.fullmatch(rb"bayou-key-1 ([a-z0-9._/-]{1,32}) ([0-9a-f]{64})\n?", text)
+        if found is None:
+            raise BadRequest("%s is no key of a store" % (path,))
+        self.name, self.secret = found.group(1), bytes.fromhex(found.group(2).decode("ascii"))
+
+    def proof(self, role, *parts):
+        """What proves to have the key, of a server or of a client (docs/FORMATS.md)."""
+        return hmac.new(self.secret, role + b"".join(parts), "sha256").digest()
+
+
 # Bytes that come.
 
 def _none_unless(is_one):
@@ -262,6 +288,16 @@ class _Payload:
         _none_unless(word <= 1)
         return self.name() if word else None
 
+    def welcome(self):
+        version, server, count, length = self.take(">BBBB")
+        name, nonce, proof = self.take(">%ds%ds%ds" % (length, _NONCE, _PROVED))
+        return version, server, count, name, nonce, proof
+
+    def known(self):
+        vector, limit, more = self.vector(), self.count(), self.take(">B")[0]
+        _none_unless(more == 0)
+        return vector, limit
+
     def item(self):
         self.at = len(self.data)
         _none_unless(self.at <= _MAX_WRITE)
@@ -280,7 +316,8 @@ class _Payload:
         return _REFUSALS[code](_REFUSALS[code].__doc__)
 
 
-_REPLIES = {_SEEN: _Payload.seen, _ACCEPTED: _Payload.accepted, _REFUSED: _Payload.refusal, _REOPENED: _Payload.reopened, _ITEM: _Payload.item, _END: _Payload.count}
+_REPLIES = {_SEEN: _Payload.seen, _ACCEPTED: _Payload.accepted, _REFUSED: _Payload.refusal, _REOPENED: _Payload.reopened, _ITEM: _Payload.item, _END: _Payload.count,
+            _WELCOME: _Payload.welcome, _KNOWN: _Payload.known}
 
 
 def _place(address):
@@ -291,10 +328,12 @@ def _place(address):
 
 
 class Link:
-    """A connection to one server, which is made when it is needed, and anew where the server closed it."""
+    """A connection to one server, which is made when it is needed, and anew where the server closed it. With the key of a store the server is greeted over
+    each of them: one that isn't of that store, or isn't of this number, is sent no request."""
 
-    def __init__(self, address: str, timeout: float = 3.0):
+    def __init__(self, address: str, timeout: float = 3.0, key: Optional[Key] = None, server: Optional[int] = None):
         self.address, self.timeout = _place(address), timeout
+        self.key, self.server = key, server
         self.socket = None
         # Until when it is asked after all others: it was silent.
         self.silent_until = 0.0
@@ -338,6 +377,42 @@ class Link:
         except OSError as error:
             self.close()
             raise Away(str(error)) from None
+        if self.key is not None:
+            self._greet()
+
+    def _greet(self):
+        """Has the server prove that it has the key, and proves the same."""
+        nonce = os.urandom(_NONCE)
+        asked = _ANY if self.server is None else self.server
+        try:
+            self.socket.sendall(_frame(_HELLO, bytes([_VERSION, asked, _ANY, 0]) + nonce))
+            theirs = self._welcomed(nonce)
+            self.socket.sendall(_frame(_PROOF, self.key.proof(b"client", theirs, nonce) + b"\0"))
+            self._greeting(_KNOWN)
+        except Stranger:
+            self.close()
+            raise
+        except (OSError, Lost) as error:
+            self.close()
+            raise Stranger("no greeting: %s" % error) from None
+
+    def _greeting(self, kind):
+        """What the next frame carries, which is a greeting of this kind."""
+        found, carried = self._reply((kind,))
+        _none_unless(found == kind)
+        return carried
+
+    def _welcomed(self, nonce):
+        """What the server drew for this greeting, if it is the one that was asked for, and proves that it has the key."""
+        version, server, count, name, theirs, proof = self._greeting(_WELCOME)
+        if version != _VERSION:
+            raise Stranger("it speaks version %d of the greeting" % version)
+        if self.server not in (None, server):
+            raise Stranger("it is server %d" % server)
+        wanted = self.key.proof(b"server", nonce, theirs, bytes([server, count]))
+        if name != self.key.name or not hmac.compare_digest(proof, wanted):
+            raise Stranger("it is of another store (%s)" % name.decode("ascii", "replace"))
+        return theirs
 
     def _reply(self, kinds):
         """The next reply, which is of one of these kinds or a refusal, and what it carries."""
@@ -424,18 +499,21 @@ class Session:
 
     `asks` says what it asks for, any of "ryw" (Read Your Writes), "mr" (Monotonic Reads), "wfr" (Writes Follow Reads) and "mw" (Monotonic
     Writes). `number` and `run` name its Writes, so that one that is asked again acts once: no two sessions of a store may have the same pair,
-    in this program or another. Each is drawn at random where it isn't given. A server that is silent, or drips, is `Lost` after `timeout` seconds, and a
+    in this program or another. Each is drawn at random where it isn't given. `key` is the file of the store's key, where the store has one: a server that
+    doesn't prove that it has it is a `Stranger`. A server that is silent, or drips, is `Lost` after `timeout` seconds, and a
     second more for each 4,096 bytes that came; for a minute it is asked after all others then, where any server may be asked.
     """
 
-    def __init__(self, addresses: Sequence[Optional[str]], asks: Iterable[str] = (), number: Optional[int] = None, run: Optional[int] = None, timeout: float = 3.0):
+    def __init__(self, addresses: Sequence[Optional[str]], asks: Iterable[str] = (), number: Optional[int] = None, run: Optional[int] = None, timeout: float = 3.0,
+                 key: Union[None, str, "os.PathLike[str]"] = None):
         if isinstance(addresses, str):
             raise BadRequest("%r is no list of addresses" % (addresses,))
         if isinstance(asks, str):
             raise BadRequest("what a session asks for is a list of names, as ['ryw', 'mr'], and not %r" % (asks,))
         if not set(asks) <= set(ASKS):
             raise BadRequest("%r isn't of %s" % (asks, ", ".join(ASKS)))
-        self.links = [None if address is None else Link(address, timeout) for address in addresses]
+        found = None if key is None else Key(key)
+        self.links = [None if address is None else Link(address, timeout, found, server) for server, address in enumerate(addresses)]
         self.asks = frozenset(asks)
         self.number = _integer(number, 0, SESSIONS - 1) if number is not None else random.SystemRandom().randint(0, SESSIONS - 1)
         self.run = _integer(run, 1, MAX_NUMBER) if run is not None else random.SystemRandom().randint(1, MAX_NUMBER)

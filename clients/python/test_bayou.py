@@ -1,7 +1,11 @@
 """The client at a server that answers as each test says. Call: python3 -m unittest discover clients/python"""
 import contextlib
+import hashlib
+import hmac
+import os
 import socket
 import struct
+import tempfile
 import threading
 import unittest
 
@@ -105,6 +109,76 @@ class Refusals(unittest.TestCase):
             away = "127.0.0.1:%d" % closed.getsockname()[1]
             with serving(frame(0x13, b"\x02" + vector(1))) as (behind, _), serving(seen(TEXT, 2)) as (well, _), bayou.Session([None, away, behind, well]) as session:
                 self.assertEqual(session.read_anywhere("room"), "kim")
+
+
+SECRET = bytes(range(32))
+KEY = "bayou-key-1 room " + SECRET.hex()
+KNOWN = frame(0x31, vector(1) + struct.pack(">I", 100) + b"\0")
+
+
+def proof(role, *parts, secret=SECRET):
+    return hmac.new(secret, role + b"".join(parts), hashlib.sha256).digest()
+
+
+@contextlib.contextmanager
+def greeting(welcome, *replies):
+    """The address of a server that answers a Hello by what `welcome` makes of its nonce, and what comes then by these; and what came."""
+    came = []
+    with socket.create_server(("127.0.0.1", 0)) as listener:
+        def answer():
+            with contextlib.suppress(OSError):
+                stream, _ = listener.accept()
+                with stream:
+                    came.append(stream.recv(65_536))
+                    stream.sendall(welcome(came[0][7:23]))
+                    for reply in replies:
+                        came.append(stream.recv(65_536))
+                        stream.sendall(reply)
+                    came.append(stream.recv(65_536))
+        threading.Thread(target=answer, daemon=True).start()
+        yield "127.0.0.1:%d" % listener.getsockname()[1], came
+
+
+def welcome_of(server=0, count=1, name=b"room", nonce=bytes(16), **more):
+    def made(theirs):
+        proved = proof(b"server", theirs, nonce, bytes([server, count]), **more)
+        return frame(0x30, bytes([1, server, count, len(name)]) + name + nonce + proved)
+    return made
+
+
+class Greetings(unittest.TestCase):
+    def setUp(self):
+        folder = tempfile.TemporaryDirectory()
+        self.addCleanup(folder.cleanup)
+        self.key = os.path.join(folder.name, "room.key")
+        with open(self.key, "w") as file:
+            file.write(KEY + "\n")
+
+    def test_a_server_that_has_the_key_is_asked(self):
+        with greeting(welcome_of(), KNOWN, seen(NUMBER, 1)) as (address, came), bayou.Session([address], key=self.key) as session:
+            self.assertEqual(session.read("room"), 7)
+            nonce = came[0][7:23]
+            self.assertEqual(came[0], frame(0x20, bytes([1, 0, 255, 0]) + nonce))
+            self.assertEqual(came[1], frame(0x21, proof(b"client", bytes(16), nonce) + b"\0"))
+
+    def test_a_server_that_has_it_not_is_sent_no_proof_and_no_request(self):
+        wrong = [welcome_of(secret=bytes(32)), welcome_of(name=b"other"), welcome_of(server=1), lambda nonce: frame(0x30, bytes([1, 0, 1, 0]) + bytes(48)),
+                 lambda nonce: frame(0x30, bytes([2, 0, 1, 4]) + b"room" + bytes(16) + proof(b"server", nonce, bytes(16), bytes([0, 1]))),
+                 lambda nonce: frame(0x13, b"\1"), lambda nonce: KNOWN, lambda nonce: b"", lambda nonce: welcome_of()(nonce)[:-1]]
+        for welcome in wrong:
+            with greeting(welcome) as (address, came), bayou.Session([address], key=self.key, timeout=0.2) as session:
+                self.assertRaises(bayou.Stranger, session.write, PUT)
+                self.assertEqual([text[2:3] for text in came if text], [b"\x20"])
+
+    def test_a_server_that_does_not_let_it_in_is_sent_no_request(self):
+        with greeting(welcome_of(), b"") as (address, _), bayou.Session([address], key=self.key, timeout=0.2) as session:
+            self.assertRaises(bayou.Stranger, session.write, PUT)
+
+    def test_a_file_that_is_no_key_is_refused(self):
+        for text in ("", "room", KEY[:-1], KEY + "\n\n", KEY.upper(), KEY.replace("room", "Room"), KEY.replace("-1", "-2")):
+            with open(self.key, "w") as file:
+                file.write(text)
+            self.assertRaises(bayou.BadRequest, bayou.Session, ["127.0.0.1:1"], key=self.key)
 
 
 if __name__ == "__main__":

@@ -7,7 +7,9 @@ ghost use Rattle.std.specs.Thread.{IsSend};
 mod progress;
 
 use bayou_connect::Input;
-use bayou_shell::{Errand, Files, refuse_words, run_connected, run_main, run_net, run_served};
+use bayou_shell::{
+    Errand, Files, refuse_words, run_connected, run_key, run_main, run_net, run_served,
+};
 use bayou_streams::{CountedChannel, Output};
 use progress::{Counted, Screen, tell_progress};
 use std::alloc::Global;
@@ -131,6 +133,7 @@ fn run<
             let (input, ()) = input.into_parts();
             run_served(rt, alloc, service, input, &mut output, told)
         }
+        Errand::Key(wish) => run_key(rt, alloc, wish, &mut output, told),
         Errand::Connect(call) => {
             // So is a person.
             screen.lock(rt).end();

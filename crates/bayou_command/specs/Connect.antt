@@ -2,18 +2,13 @@
 use Rattle.std.specs.Prelude.{ℕ, List, [], ◌∷◌, Option, Some, codes, map, option_map}
 use Rattle.clap.specs.Words.{App, Row, Rule, Text, new_app}
 use Rattle.clap.specs.declared.builder.action.ArgAction.TheVariants.{Append}
-use Rattle.clap.specs.declared.builder.value_parser.ValueParser.TheVariants.{NonEmptyString}
 use Rattle.bayou_base.specs.declared.limits.TheConstants.{DEFAULT_TIMEOUT_SECONDS, MAX_SECONDS, SERVERS}
-use Rattle.bayou_command.specs.Options.{Input, file_rule, given_of, input_of, input_seen, needed, number_given, number_of, number_rule, option_rule, texts_of, with_rules}
+use Rattle.bayou_command.specs.Options.{Input, file_option_rule, file_rule, given_of, input_of, input_seen, needed, number_given, number_of, number_rule, option_rule, texts_of, with_rules}
 use Rattle.bayou_command.specs.declared.connecting.Connecting.{Connecting}
 
--- an option that names a file; its name has a byte
-abbrev pub file_option_rule : Text → Rule
-file_option_rule name = record (option_rule name) { parser = Some NonEmptyString }
-
--- which servers there are, of which one must be named, and what the session asks for
+-- which servers there are, of which one must be named, what the session asks for, and the key of the store
 abbrev pub store_rules : List Rule
-store_rules = record (needed (option_rule (codes "server"))) { action = Some Append } ∷ number_rule (codes "servers") 1 SERVERS ∷ option_rule (codes "session") ∷ []
+store_rules = record (needed (option_rule (codes "server"))) { action = Some Append } ∷ number_rule (codes "servers") 1 SERVERS ∷ option_rule (codes "session") ∷ file_option_rule (codes "key") ∷ []
 
 -- what is kept, for how long it waits, and a file of lines or none
 abbrev pub kept_rules : List Rule
@@ -27,6 +22,7 @@ pub record Connection : Type 0 where
   pub servers : List Text
   pub count : Option ℕ
   pub asks : Option Text
+  pub key : Option Text
   pub state : Option Text
   pub book : Option Text
   pub wait_seconds : ℕ
@@ -39,6 +35,7 @@ connection_of rows = record {
   servers = texts_of (codes "server") rows;
   count = number_given (codes "servers") 1 SERVERS rows;
   asks = given_of (codes "session") rows;
+  key = given_of (codes "key") rows;
   state = given_of (codes "state") rows;
   book = given_of (codes "book") rows;
   wait_seconds = number_of (codes "wait") 0 MAX_SECONDS 0 rows;
@@ -52,6 +49,7 @@ connection_seen connecting = record {
   servers = map (λ server. server.now) connecting.servers.items;
   count = connecting.count;
   asks = option_map (λ asks. asks.now) connecting.asks;
+  key = option_map (λ name. name.now) connecting.key;
   state = option_map (λ name. name.now) connecting.state;
   book = option_map (λ name. name.now) connecting.book;
   wait_seconds = connecting.wait_seconds;

@@ -1,5 +1,6 @@
 pub mod Connect
 pub mod Inner
+pub mod Key
 pub mod Options
 pub mod Rows
 pub mod Serve

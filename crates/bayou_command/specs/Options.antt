@@ -27,6 +27,10 @@ file_rule = new_rule file_name
 abbrev pub option_rule : Text → Rule
 option_rule name = record (new_rule name) { long = Some name; value_names = 1 }
 
+-- an option that names a file; its name has a byte
+abbrev pub file_option_rule : Text → Rule
+file_option_rule name = record (option_rule name) { parser = Some NonEmptyString }
+
 -- its value is a number from least to most
 abbrev pub number_rule : Text → ℕ → ℕ → Rule
 number_rule name least most = record (option_rule name) { parser = Some (Signed (pos least) (pos most)) }

@@ -24,6 +24,7 @@ plain_service = record {
   folder = codes "d";
   listen = codes "h:1";
   peers = [];
+  key = None;
   every_seconds = 1;
   limit = 65536;
   connections = 64;
@@ -48,12 +49,17 @@ plain_connection = record {
   servers = codes "0=h:1" ∷ [];
   count = None;
   asks = None;
+  key = None;
   state = None;
   book = None;
   wait_seconds = 0;
   timeout_seconds = 3;
   input = standard;
 }
+
+-- the program and its last command but one, before these words
+abbrev pub key_words : List Text → List Text
+key_words words = codes "bayou" ∷ codes "key" ∷ words
 
 -- the number that a text is in decimal digits, behind a sign or none
 abbrev pub number_written : Text → ℕ

@@ -1,9 +1,9 @@
 -- The words behind `serve`: what its options take, and what they ask for.
-use Rattle.std.specs.Prelude.{◌-◌, ℕ, Bool, List, [], ◌∷◌, Some, codes, map}
+use Rattle.std.specs.Prelude.{◌-◌, ℕ, Bool, List, [], ◌∷◌, Option, Some, codes, map, option_map}
 use Rattle.clap.specs.Words.{App, Row, Rule, Text, new_app}
 use Rattle.clap.specs.declared.builder.action.ArgAction.TheVariants.{Append}
 use Rattle.bayou_base.specs.declared.limits.TheConstants.{DEFAULT_CONNECTIONS, DEFAULT_EVERY_SECONDS, DEFAULT_IDLE_SECONDS, MAX_CONNECTIONS, MAX_SECONDS, MAX_WRITES, SERVERS}
-use Rattle.bayou_command.specs.Options.{flag_of, flag_rule, folder_name, folder_rule, needed, number_of, number_rule, option_rule, text_of, texts_of, with_rules}
+use Rattle.bayou_command.specs.Options.{file_option_rule, flag_of, flag_rule, folder_name, folder_rule, given_of, needed, number_of, number_rule, option_rule, text_of, texts_of, with_rules}
 use Rattle.bayou_command.specs.declared.serving.Serving.{Serving}
 
 -- what must be there
@@ -13,7 +13,7 @@ needed_rules = needed (number_rule (codes "id") 0 (SERVERS - 1)) ∷ needed (num
 -- what may be there; `peer` as often as one likes
 abbrev pub choice_rules : List Rule
 choice_rules = record (option_rule (codes "peer")) { action = Some Append } ∷ number_rule (codes "every") 1 MAX_SECONDS ∷ number_rule (codes "limit") 1 MAX_WRITES
-    ∷ number_rule (codes "connections") 1 MAX_CONNECTIONS ∷ number_rule (codes "idle") 1 MAX_SECONDS ∷ []
+    ∷ number_rule (codes "connections") 1 MAX_CONNECTIONS ∷ number_rule (codes "idle") 1 MAX_SECONDS ∷ file_option_rule (codes "key") ∷ []
 
 abbrev pub flag_rules : List Rule
 flag_rules = flag_rule (codes "until-input-ends") ∷ flag_rule (codes "new") ∷ flag_rule (codes "restore") ∷ flag_rule (codes "anyone") ∷ []
@@ -29,6 +29,7 @@ pub record Service : Type 0 where
   pub folder : Text
   pub listen : Text
   pub peers : List Text
+  pub key : Option Text
   pub every_seconds : ℕ
   pub limit : ℕ
   pub connections : ℕ
@@ -46,6 +47,7 @@ service_of rows = record {
   folder = text_of folder_name rows;
   listen = text_of (codes "listen") rows;
   peers = texts_of (codes "peer") rows;
+  key = given_of (codes "key") rows;
   every_seconds = number_of (codes "every") 1 MAX_SECONDS DEFAULT_EVERY_SECONDS rows;
   limit = number_of (codes "limit") 1 MAX_WRITES MAX_WRITES rows;
   connections = number_of (codes "connections") 1 MAX_CONNECTIONS DEFAULT_CONNECTIONS rows;
@@ -64,6 +66,7 @@ service_seen serving = record {
   folder = serving.folder.now;
   listen = serving.listen.now;
   peers = map (λ peer. peer.now) serving.peers.items;
+  key = option_map (λ name. name.now) serving.key;
   every_seconds = serving.every_seconds;
   limit = serving.limit;
   connections = serving.connections;

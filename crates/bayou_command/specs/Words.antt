@@ -7,12 +7,13 @@ use Rattle.clap.specs.declared.error.kind.ErrorKind.{ErrorKind}
 use Rattle.clap.specs.declared.error.kind.ErrorKind.TheVariants.{DisplayHelp, DisplayVersion}
 pub use Rattle.bayou_command.specs.Options.{Input, file, file_name, file_rule, folder_name, folder_rule, input_named, input_of, input_seen, standard}
 use Rattle.bayou_command.specs.Connect.{Connection, connect_app, connection_of, connection_seen}
+use Rattle.bayou_command.specs.Key.{key_app}
 use Rattle.bayou_command.specs.Options.{text_of}
 use Rattle.bayou_command.specs.Serve.{Service, serve_app, service_of, service_seen}
 use Rattle.bayou_command.specs.declared.Stop.{Stop}
 use Rattle.bayou_command.specs.declared.Stop.TheVariants as stops
 use Rattle.bayou_command.specs.declared.Task.{Task}
-use Rattle.bayou_command.specs.declared.Task.TheVariants.{Run, Audit, Net, Serve, Connect}
+use Rattle.bayou_command.specs.declared.Task.TheVariants.{Run, Audit, Net, Serve, Connect, Key}
 
 -- `run` takes a file or none, and `audit` takes one
 abbrev pub run_app : App
@@ -33,7 +34,8 @@ abbrev pub main_app : App
 main_app = record bare_app { top = record bare_app.top { has_version = true; subcommand_required = true } }
 
 abbrev pub bayou_app : App
-bayou_app = with_subcommand (with_subcommand (with_subcommand (with_subcommand (with_subcommand main_app run_app.top) net_app.top) serve_app.top) connect_app.top) audit_app.top
+bayou_app =
+    with_subcommand (with_subcommand (with_subcommand (with_subcommand (with_subcommand (with_subcommand main_app run_app.top) net_app.top) serve_app.top) connect_app.top) key_app.top) audit_app.top
 
 -- why the words, the program's own name before them, may name no task; there is nothing of that kind where they name one
 abbrev pub faults_of : List Text → Kinds
@@ -46,12 +48,13 @@ pub data Asked : Type 0 where
   a_net : Text → Input → Asked
   a_serve : Service → Asked
   a_connect : Connection → Asked
+  a_key : (name file : Text) → Asked
 
 -- the folder that is named, as it is wherever a command that asks for one was entered
 abbrev pub folder_of : List Row → Text
 folder_of rows = text_of folder_name rows
 
--- of the program's five commands, the one that was entered
+-- of the program's six commands, the one that was entered
 abbrev pub asked_by : Option (Text × List Row) → Asked
 asked_by None = a_run standard
 asked_by (Some (name, rows)) =
@@ -59,6 +62,7 @@ asked_by (Some (name, rows)) =
     else if bytes_eq name (codes "net") then a_net (folder_of rows) (input_of rows)
     else if bytes_eq name (codes "serve") then a_serve (service_of rows)
     else if bytes_eq name (codes "connect") then a_connect (connection_of rows)
+    else if bytes_eq name (codes "key") then a_key (text_of (codes "name") rows) (text_of file_name rows)
     else a_run (input_of rows)
 
 -- the words are no mistake, and ask for this
@@ -73,6 +77,7 @@ task_seen (Audit source) = an_audit (input_seen source)
 task_seen (Net folder script) = a_net folder.now (input_seen script)
 task_seen (Serve serving) = a_serve (service_seen serving)
 task_seen (Connect connecting) = a_connect (connection_seen connecting)
+task_seen (Key name made) = a_key name.now made.now
 
 -- it is no mistake, but asks for a text: a help, or the version
 abbrev pub IsRequest : ErrorKind → Type 0

@@ -1,18 +1,17 @@
 //! The words behind `connect`: its options, and what they ask for.
 ghost use Rattle.std.specs.Prelude.{◌≡◌, ◌≤◌, ◌<◌, IfOk, IfSome, codes, false};
 ghost use Rattle.clap.specs.declared.builder.command.Command.TheViews.{out-Command as fields_of};
-ghost use Rattle.clap.specs.Words.{app_of, found_of, rows_of, rule_of};
-ghost use Rattle.bayou_command.specs.Connect.{connect_app, connection_of, connection_seen, file_option_rule, kept_rules, store_rules};
+ghost use Rattle.clap.specs.Words.{app_of, found_of, rows_of};
+ghost use Rattle.bayou_command.specs.Connect.{connect_app, connection_of, connection_seen, kept_rules, store_rules};
 ghost use Rattle.bayou_command.specs.Options.{number_given, with_rules};
 ghost use Rattle.bayou_base.specs.declared.limits.TheConstants.{SERVERS};
 
 use crate::connecting::Connecting;
 use crate::options::{
-    number_if_given, number_in, number_option, text_if_given, texts_in, value_option,
+    file_option, number_if_given, number_in, number_option, text_if_given, texts_in, value_option,
 };
 use crate::source_in;
 use bayou_base::limits::{DEFAULT_TIMEOUT_SECONDS, MAX_SECONDS, SERVERS};
-use clap::builder::ValueParser;
 use clap::{Arg, ArgAction, ArgMatches, Command};
 use std::alloc::{AllocError, Global};
 
@@ -27,6 +26,8 @@ const COUNT: &str =
 
 const SESSION: &str =
     "What the session asks for: any of ryw,mr,wfr,mw, or all, or none (without it what --state keeps, or none)";
+
+const KEY: &str = "The file of the store's key, where the store has one";
 
 const STATE: &str = "The file that keeps the session from one call to the next";
 
@@ -92,6 +93,8 @@ before it. So later ask again who has the key. New are
 --state keeps the session in FILE, before an answer is printed, so that the next call goes on as the same session, at any server: it sees what
 this one saw, and a Write that was under way is asked again by `again`. Each person has a file of his own, and one call at a time uses it.
 What the session asks for is kept, too: a later --session that says anything else is refused.
+--key names the file of the store's key (bayou key --help). A server that doesn't prove that it has that key is told, and is sent nothing. A state
+that was made with a key is used with no other, and not without.
 --book writes what was served to FILE, as an audit file; with the dumps of all servers bayou audit tells whether the session had what it
 asked for.
 
@@ -104,14 +107,6 @@ output, memory or the state (its file can't be had, is in use, or has something 
 Pages: docs/CONNECT.md (a calendar's day, and what a session keeps), docs/SERVE.md (servers that live), docs/GUARANTEES.md (what a session may
 ask for), docs/FORMATS.md (lines in and out), docs/TROUBLE.md (what to do about each fault)."#;
 
-/// An option that names a file.
-fn file_option<'a>(alloc: Global, name: &'a str, help: &'a str) -> Arg<'a>
-    ensures rule { rule_of result ≡ file_option_rule name.entry.now }
-    ensures local { result.global ≡ false }
-{
-    value_option(alloc, name, "FILE", help).value_parser(ValueParser::NonEmptyString)
-}
-
 // The command with the options that say which store it is, and what the session asks for.
 fn with_store<'a>(alloc: Global, command: Command<'a>) -> Result<Command<'a>, AllocError>
     ensures app { IfOk result (λ made. app_of made ≡ with_rules (app_of command.entry) store_rules) }
@@ -122,7 +117,8 @@ fn with_store<'a>(alloc: Global, command: Command<'a>) -> Result<Command<'a>, Al
     command
         .arg(server.action(ArgAction::Append).required(true))?
         .arg(count)?
-        .arg(value_option(alloc, "session", "ASKS", SESSION))
+        .arg(value_option(alloc, "session", "ASKS", SESSION))?
+        .arg(file_option(alloc, "key", KEY))
 }
 
 // The command with the options that say what is kept and how long it waits, and with the file of its lines.
@@ -169,6 +165,7 @@ pub(crate) fn connecting_in<'a>(
         servers: texts_in(alloc, found, "server")?,
         count: count_in(found),
         asks: text_if_given(found, "session"),
+        key: text_if_given(found, "key"),
         state: text_if_given(found, "state"),
         book: text_if_given(found, "book"),
         wait_seconds: number_in(found, "wait", 0, MAX_SECONDS, 0),

@@ -14,6 +14,8 @@ pub struct Connecting<'a> {
     pub count: Option<u8>,
     /// What the session asks for, as it was written, where that is said.
     pub asks: Option<&'a str>,
+    /// The file of the store's key, if the store has one.
+    pub key: Option<&'a str>,
     /// The file in which the session is kept, if it is.
     pub state: Option<&'a str>,
     /// The file to which an audit file of what was served is written, if one is.

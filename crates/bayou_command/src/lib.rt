@@ -8,12 +8,13 @@
 ghost use Rattle.std.specs.Prelude.{◌≡◌, ◌∷◌, ◌++◌, [], ℕ, IfOk, List, Some, codes, false, map, true};
 ghost use Rattle.clap.specs.declared.builder.command.Command.TheViews.{out-Command as fields_of};
 ghost use Rattle.clap.specs.Words.{app_of, found_of, kind_of, rows_of, rule_of, subcommand_rows_of};
-ghost use Rattle.bayou_command.specs.Words.{AskFor, Names, a_connect, a_net, a_run, a_serve, an_audit, asked_by, audit_app, bayou_app, faults_of, file, folder_of, folder_rule, input_of, input_seen, main_app, net_app, run_app, standard, task_seen};
-ghost use Rattle.bayou_command.specs.Rows.{TakesNumbers, connect_with, connect_words, plain_connection, plain_service, serve_with, serve_words};
+ghost use Rattle.bayou_command.specs.Words.{AskFor, Names, a_connect, a_key, a_net, a_run, a_serve, an_audit, asked_by, audit_app, bayou_app, faults_of, file, folder_of, folder_rule, input_of, input_seen, main_app, net_app, run_app, standard, task_seen};
+ghost use Rattle.bayou_command.specs.Rows.{TakesNumbers, connect_with, connect_words, key_words, plain_connection, plain_service, serve_with, serve_words};
 ghost use Rattle.bayou_command.specs.Inner.Stops.{StopsAt};
 
 mod connect;
 mod connecting;
+mod key;
 mod options;
 mod serve;
 mod serving;
@@ -23,6 +24,8 @@ use clap::error::ErrorKind;
 use clap::{Arg, ArgMatches, Command, Error};
 use connect::{connect_command, connecting_in};
 pub use connecting::Connecting;
+use key::key_command;
+use options::text_in;
 use serve::{serve_command, serving_in};
 pub use serving::Serving;
 use std::alloc::{AllocError, Global};
@@ -62,8 +65,8 @@ The session didn't read its own Write: its read at place 2, at server 1, lacks t
 the verdict is clean.
 
 `bayou run --help` has each line of a script, `bayou net --help` how a script is run over sockets, with journals in files,
-`bayou audit --help` each line of an audit file, `bayou serve --help` how one server is kept at a socket for clients of any kind, and
-`bayou connect --help` how a person writes and reads at such servers.
+`bayou audit --help` each line of an audit file, `bayou serve --help` how one server is kept at a socket for clients of any kind,
+`bayou connect --help` how a person writes and reads at such servers, and `bayou key --help` how a store is kept from strangers.
 Exit status: 0 nothing is wrong; 1 a verdict is broken; 2 the input or the command line is refused, or a verdict is; 3 memory, a
 device, the network, the input or the output failed.
 docs/TROUBLE.md says what to do about each fault; examples/ has scripts and audit files to begin from."#;
@@ -254,6 +257,8 @@ pub enum Task<'a> {
     Serve(Serving<'a>),
     /// To ask the servers of a store what lines say.
     Connect(Connecting<'a>),
+    /// To make the key of a store of this name, in this file. The name may still be one of nothing.
+    Key { name: &'a str, file: &'a str },
 }
 
 /// Why the words name no task.
@@ -355,6 +360,7 @@ fn bayou_command<'a>(alloc: Global) -> Result<Command<'a>, AllocError>
         .subcommand(net_command(alloc)?)?
         .subcommand(serve_command(alloc)?)?
         .subcommand(connect_command(alloc)?)?
+        .subcommand(key_command(alloc)?)?
         .subcommand(audit_command(alloc)?)
 }
 
@@ -390,6 +396,10 @@ fn task_in<'a>(alloc: Global, matches: &ArgMatches<'a>) -> Result<Task<'a>, Allo
         },
         Some(("serve", found)) => Task::Serve(serving_in(alloc, found)?),
         Some(("connect", found)) => Task::Connect(connecting_in(alloc, found)?),
+        Some(("key", found)) => Task::Key {
+            name: text_in(found, "name"),
+            file: text_in(found, "FILE"),
+        },
         Some((_, found)) => Task::Run(source_in(found)),
         None => Task::Run(Source::Standard),
     })
@@ -441,6 +451,9 @@ pub fn commands_are_named()
     ensures serve_turned { AskFor (serve_words (codes "--anyone" ∷ codes "--idle" ∷ codes "5" ∷ codes "--peer" ∷ codes "0=h:2" ∷ codes "--listen" ∷ codes "h:1" ∷ codes "--limit" ∷ codes "3" ∷ codes "--restore" ∷ codes "--id" ∷ codes "1" ∷ codes "--connections" ∷ codes "4" ∷ codes "--peer" ∷ codes "2=h:3" ∷ codes "--dir" ∷ codes "d" ∷ codes "--every" ∷ codes "2" ∷ codes "--until-input-ends" ∷ codes "--servers" ∷ codes "3" ∷ [])) (a_serve (record plain_service { peers = codes "0=h:2" ∷ codes "2=h:3" ∷ []; every_seconds = 2; limit = 3; connections = 4; idle_seconds = 5; until_input_ends = true; is_restored = true; serves_anyone = true })) }
     ensures serve_least { AskFor (serve_words (codes "--id" ∷ codes "0" ∷ codes "--servers" ∷ codes "1" ∷ codes "--dir" ∷ codes "d" ∷ codes "--listen" ∷ codes "h:1" ∷ codes "--every" ∷ codes "1" ∷ codes "--limit" ∷ codes "1" ∷ codes "--connections" ∷ codes "1" ∷ codes "--idle" ∷ codes "1" ∷ [])) (a_serve (record plain_service { id = 0; servers = 1; limit = 1; connections = 1; idle_seconds = 1 })) }
     ensures serve_most { AskFor (serve_words (codes "--id" ∷ codes "15" ∷ codes "--servers" ∷ codes "16" ∷ codes "--dir" ∷ codes "d" ∷ codes "--listen" ∷ codes "h:1" ∷ codes "--every" ∷ codes "86400" ∷ codes "--limit" ∷ codes "65536" ∷ codes "--connections" ∷ codes "4096" ∷ codes "--idle" ∷ codes "86400" ∷ [])) (a_serve (record plain_service { id = 15; servers = 16; every_seconds = 86400; connections = 4096; idle_seconds = 86400 })) }
+    ensures serve_key { AskFor (serve_with (codes "--key" ∷ codes "k" ∷ [])) (a_serve (record plain_service { key = Some (codes "k") })) }
+    ensures serve_key_unnamed { faults_of (serve_with (codes "--key" ∷ [] ∷ [])) ≡ ErrorKind.InvalidValue ∷ [] }
+    ensures serve_key_twice { faults_of (serve_with (codes "--key" ∷ codes "k" ∷ codes "--key" ∷ codes "k" ∷ [])) ≡ ErrorKind.ArgumentConflict ∷ [] }
     ensures serve_bare { faults_of (serve_words []) ≡ ErrorKind.MissingRequiredArgument ∷ [] }
     ensures serve_no_id { faults_of (serve_words (codes "--servers" ∷ codes "3" ∷ codes "--dir" ∷ codes "d" ∷ codes "--listen" ∷ codes "h:1" ∷ [])) ≡ ErrorKind.MissingRequiredArgument ∷ [] }
     ensures serve_no_servers { faults_of (serve_words (codes "--id" ∷ codes "1" ∷ codes "--dir" ∷ codes "d" ∷ codes "--listen" ∷ codes "h:1" ∷ [])) ≡ ErrorKind.MissingRequiredArgument ∷ [] }
@@ -474,11 +487,12 @@ pub fn numbers_are_taken()
     ensures idle { TakesNumbers 1 86400 (λ text. serve_with ((codes "--idle=" ++ text) ∷ [])) (λ number. a_serve (record plain_service { idle_seconds = number })) }
 {}
 
-/// A law: whatever stands behind `--listen=`, `--dir=` and `--peer=` is taken as it stands, where a folder's name has a byte, and the peers in
-/// their order.
+/// A law: whatever stands behind `--listen=`, `--dir=`, `--key=` and `--peer=` is taken as it stands, where the name of a folder or a file has a byte, and the
+/// peers in their order.
 pub fn texts_are_taken()
     ensures listen { (text : List ℕ) → AskFor (serve_words ((codes "--listen=" ++ text) ∷ codes "--id" ∷ codes "1" ∷ codes "--servers" ∷ codes "3" ∷ codes "--dir" ∷ codes "d" ∷ [])) (a_serve (record plain_service { listen = text })) }
     ensures dir { (byte : ℕ) (text : List ℕ) → AskFor (serve_words ((codes "--dir=" ++ byte ∷ text) ∷ codes "--id" ∷ codes "1" ∷ codes "--servers" ∷ codes "3" ∷ codes "--listen" ∷ codes "h:1" ∷ [])) (a_serve (record plain_service { folder = byte ∷ text })) }
+    ensures key { (byte : ℕ) (text : List ℕ) → AskFor (serve_with ((codes "--key=" ++ byte ∷ text) ∷ [])) (a_serve (record plain_service { key = Some (byte ∷ text) })) }
     ensures peers { (first second : List ℕ) → AskFor (serve_with ((codes "--peer=" ++ first) ∷ (codes "--peer=" ++ second) ∷ [])) (a_serve (record plain_service { peers = first ∷ second ∷ [] })) }
 {}
 
@@ -491,6 +505,7 @@ pub fn connections_are_named()
     ensures servers { AskFor (connect_with (codes "--server" ∷ codes "2=h:3" ∷ [])) (a_connect (record plain_connection { servers = codes "0=h:1" ∷ codes "2=h:3" ∷ [] })) }
     ensures count { AskFor (connect_with (codes "--servers" ∷ codes "3" ∷ [])) (a_connect (record plain_connection { count = Some 3 })) }
     ensures asks { AskFor (connect_with (codes "--session" ∷ codes "ryw,mr" ∷ [])) (a_connect (record plain_connection { asks = Some (codes "ryw,mr") })) }
+    ensures key { AskFor (connect_with (codes "--key" ∷ codes "k" ∷ [])) (a_connect (record plain_connection { key = Some (codes "k") })) }
     ensures state { AskFor (connect_with (codes "--state" ∷ codes "s" ∷ [])) (a_connect (record plain_connection { state = Some (codes "s") })) }
     ensures book { AskFor (connect_with (codes "--book" ∷ codes "b" ∷ [])) (a_connect (record plain_connection { book = Some (codes "b") })) }
     ensures wait { AskFor (connect_with (codes "--wait" ∷ codes "5" ∷ [])) (a_connect (record plain_connection { wait_seconds = 5 })) }
@@ -509,6 +524,8 @@ pub fn connections_are_named()
     ensures wait_above { faults_of (connect_with (codes "--wait" ∷ codes "86401" ∷ [])) ≡ ErrorKind.ValueValidation ∷ [] }
     ensures timeout_below { faults_of (connect_with (codes "--timeout" ∷ codes "0" ∷ [])) ≡ ErrorKind.ValueValidation ∷ [] }
     ensures timeout_above { faults_of (connect_with (codes "--timeout" ∷ codes "86401" ∷ [])) ≡ ErrorKind.ValueValidation ∷ [] }
+    ensures key_unnamed { faults_of (connect_with (codes "--key" ∷ [] ∷ [])) ≡ ErrorKind.InvalidValue ∷ [] }
+    ensures key_twice { faults_of (connect_with (codes "--key" ∷ codes "k" ∷ codes "--key" ∷ codes "k" ∷ [])) ≡ ErrorKind.ArgumentConflict ∷ [] }
     ensures state_unnamed { faults_of (connect_with (codes "--state" ∷ [] ∷ [])) ≡ ErrorKind.InvalidValue ∷ [] }
     ensures book_unnamed { faults_of (connect_with (codes "--book" ∷ [] ∷ [])) ≡ ErrorKind.InvalidValue ∷ [] }
     ensures count_twice { faults_of (connect_with (codes "--servers" ∷ codes "3" ∷ codes "--servers" ∷ codes "3" ∷ [])) ≡ ErrorKind.ArgumentConflict ∷ [] }
@@ -522,7 +539,7 @@ pub fn connections_are_named()
 {}
 
 /// A law: whatever stands behind `--servers=`, `--wait=` and `--timeout=` is taken as the number in decimal digits that it is, where that is in
-/// its range, and any other text is refused. What stands behind `--server=`, `--session=`, `--state=` and `--book=` is taken as it stands, where the name of a
+/// its range, and any other text is refused. What stands behind `--server=`, `--session=`, `--key=`, `--state=` and `--book=` is taken as it stands, where the name of a
 /// file has a byte, and the servers in their order.
 pub fn connections_are_taken()
     ensures count { TakesNumbers 1 16 (λ text. connect_with ((codes "--servers=" ++ text) ∷ [])) (λ number. a_connect (record plain_connection { count = Some number })) }
@@ -530,6 +547,21 @@ pub fn connections_are_taken()
     ensures timeout { TakesNumbers 1 86400 (λ text. connect_with ((codes "--timeout=" ++ text) ∷ [])) (λ number. a_connect (record plain_connection { timeout_seconds = number })) }
     ensures servers { (first second : List ℕ) → AskFor (connect_words ((codes "--server=" ++ first) ∷ (codes "--server=" ++ second) ∷ [])) (a_connect (record plain_connection { servers = first ∷ second ∷ [] })) }
     ensures asks { (text : List ℕ) → AskFor (connect_with ((codes "--session=" ++ text) ∷ [])) (a_connect (record plain_connection { asks = Some text })) }
+    ensures key { (byte : ℕ) (text : List ℕ) → AskFor (connect_with ((codes "--key=" ++ byte ∷ text) ∷ [])) (a_connect (record plain_connection { key = Some (byte ∷ text) })) }
     ensures state { (byte : ℕ) (text : List ℕ) → AskFor (connect_with ((codes "--state=" ++ byte ∷ text) ∷ [])) (a_connect (record plain_connection { state = Some (byte ∷ text) })) }
     ensures book { (byte : ℕ) (text : List ℕ) → AskFor (connect_with ((codes "--book=" ++ byte ∷ text) ∷ [])) (a_connect (record plain_connection { book = Some (byte ∷ text) })) }
+{}
+
+/// A law: `bayou key` with the name of a store and one file, in any order, asks for a key of that store in that file. Without one of the two, with an option
+/// or a file twice, or with a file of no name it is refused. What stands behind `--name=`, and the file's name where it has a byte, is taken as it stands.
+pub fn keys_are_named()
+    ensures plain { AskFor (key_words (codes "f" ∷ codes "--name" ∷ codes "n" ∷ [])) (a_key (codes "n") (codes "f")) }
+    ensures turned { AskFor (key_words (codes "--name=n" ∷ codes "f" ∷ [])) (a_key (codes "n") (codes "f")) }
+    ensures taken { (text : List ℕ) → AskFor (key_words ((codes "--name=" ++ text) ∷ codes "f" ∷ [])) (a_key text (codes "f")) }
+    ensures bare { faults_of (key_words []) ≡ ErrorKind.MissingRequiredArgument ∷ [] }
+    ensures no_name { faults_of (key_words (codes "f" ∷ [])) ≡ ErrorKind.MissingRequiredArgument ∷ [] }
+    ensures no_file { faults_of (key_words (codes "--name" ∷ codes "n" ∷ [])) ≡ ErrorKind.MissingRequiredArgument ∷ [] }
+    ensures file_unnamed { faults_of (key_words (codes "--name" ∷ codes "n" ∷ [] ∷ [])) ≡ ErrorKind.InvalidValue ∷ [] }
+    ensures name_twice { faults_of (key_words (codes "--name" ∷ codes "n" ∷ codes "--name" ∷ codes "n" ∷ codes "f" ∷ [])) ≡ ErrorKind.ArgumentConflict ∷ [] }
+    ensures two_files { faults_of (key_words (codes "--name" ∷ codes "n" ∷ codes "f" ∷ codes "g" ∷ [])) ≡ ErrorKind.UnknownArgument ∷ [] }
 {}

@@ -1,7 +1,7 @@
 //! Options of commands, and what they give.
 ghost use Rattle.std.specs.Prelude.{◌≡◌, ◌≤◌, IfOk, IfSome, false, map, option_map};
 ghost use Rattle.clap.specs.Words.{found_of, rows_of, rule_of};
-ghost use Rattle.bayou_command.specs.Options.{flag_of, flag_rule, given_of, number_of, number_given, number_rule, option_rule, text_of, texts_of};
+ghost use Rattle.bayou_command.specs.Options.{file_option_rule, flag_of, flag_rule, given_of, number_of, number_given, number_rule, option_rule, text_of, texts_of};
 
 use clap::builder::ValueParser;
 use clap::{Arg, ArgAction, ArgMatches};
@@ -47,6 +47,14 @@ pub(crate) fn flag<'a>(alloc: Global, name: &'a str, help: &'a str) -> Arg<'a>
         .long(name)
         .action(ArgAction::SetTrue)
         .help(help)
+}
+
+/// An option that names a file.
+pub(crate) fn file_option<'a>(alloc: Global, name: &'a str, help: &'a str) -> Arg<'a>
+    ensures rule { rule_of result ≡ file_option_rule name.entry.now }
+    ensures local { result.global ≡ false }
+{
+    value_option(alloc, name, "FILE", help).value_parser(ValueParser::NonEmptyString)
 }
 
 /// The number that an option gives, if it is there. No command is entered with one out of its range.

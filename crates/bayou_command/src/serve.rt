@@ -5,7 +5,10 @@ ghost use Rattle.clap.specs.Words.{app_of, found_of, rows_of};
 ghost use Rattle.bayou_command.specs.Options.{with_rules};
 ghost use Rattle.bayou_command.specs.Serve.{choice_rules, flag_rules, needed_rules, serve_app, service_of, service_seen};
 
-use crate::options::{flag, flag_in, number_in, number_option, text_in, texts_in, value_option};
+use crate::options::{
+    file_option, flag, flag_in, number_in, number_option, text_if_given, text_in, texts_in,
+    value_option,
+};
 use crate::serving::Serving;
 use crate::{folder_in, folder_option};
 use bayou_base::limits::{
@@ -27,6 +30,8 @@ const FOLDER: &str = "The folder that its journal is in; it must exist";
 const LISTEN: &str = "Where it listens, as 127.0.0.1:7000";
 
 const PEER: &str = "A server that it pulls from, and where that listens; once for each";
+
+const KEY: &str = "The file of the store's key: who hasn't got it can't ask anything";
 
 const EVERY: &str = "After so many seconds it pulls again (1 to 86400; without it 1)";
 
@@ -74,8 +79,10 @@ With --until-input-ends it ends where the standard input does, and then prints t
 On standard error it tells, in a line each: that a peer is away, that it is reached again, and what was pulled from it; that a torn entry at
 the end of the journal was dropped; that it holds 90, 95 and 99 % of its limit.
 
-The store has no passwords and no ciphers: who reaches the port reads and writes what he likes. So an address other than this machine's own
-(127.0.0.1, loopback) is refused without --anyone. From another machine, reach it over `ssh -L 7000:127.0.0.1:7000 HOST`.
+Without --key the store is open: who reaches the port reads and writes what he likes. With the key of the store (bayou key --help) nobody else can
+ask anything, and no other server is pulled from. The first start with a key makes DIR/server-I.store, and from then on the journal is served
+with that key alone. There are no ciphers, so an address other than this machine's own (127.0.0.1, loopback) is refused without --anyone. From
+another machine, reach it over `ssh -L 7000:127.0.0.1:7000 HOST`.
 
 A signal, as of Ctrl-C or kill, is a clean end: each Write is synced before anybody is told of it. The next start goes on from the journal.
 
@@ -115,7 +122,8 @@ fn with_choices<'a>(alloc: Global, command: Command<'a>) -> Result<Command<'a>, 
         .arg(every)?
         .arg(limit)?
         .arg(connections)?
-        .arg(idle)
+        .arg(idle)?
+        .arg(file_option(alloc, "key", KEY))
 }
 
 // The command with its flags.
@@ -163,6 +171,7 @@ pub(crate) fn serving_in<'a>(
         folder: folder_in(found),
         listen: text_in(found, "listen"),
         peers: texts_in(alloc, found, "peer")?,
+        key: text_if_given(found, "key"),
         every_seconds: every,
         limit: number_in(found, "limit", 1, MAX_WRITES, MAX_WRITES),
         connections,

@@ -14,6 +14,8 @@ pub struct Serving<'a> {
     pub listen: &'a str,
     /// Whom it pulls from, each as it was written, in the order of the words.
     pub peers: Vec<&'a str>,
+    /// The file of its store's key, if the store has one.
+    pub key: Option<&'a str>,
     /// After how many seconds it pulls again.
     pub every_seconds: u32,
     /// How many Writes it holds at the most.

@@ -16,7 +16,9 @@ use crate::round::ROUNDS_PER_SECOND;
 use crate::store::Store;
 use bayou_base::{Asks, SESSIONS, SessionId};
 use bayou_client::Asker;
+use bayou_greeting::StoreKey;
 use bayou_journal::DamagedEntry;
+use bayou_key_file::{keep_label, look_for_label};
 use bayou_net::Sockets;
 use bayou_remember::nothing_kept;
 use bayou_script::ScriptFault;
@@ -161,7 +163,13 @@ where
 }
 
 // How this program greets servers.
-fn greeter_of<T: RandomSource>(rt: &T, alloc: Global) -> Result<Greeter, ConnectFault> {
+fn greeter_of<T: RandomSource>(
+    rt: &T,
+    alloc: Global,
+    key: Option<StoreKey>,
+) -> Result<Greeter, ConnectFault>
+    ensures { IfOk result (λ greeter. greeter.key ≡ key) }
+{
     let mut drawn = [0; DRAWN_BYTES];
     if rt.fill_bytes(&mut drawn).is_err() {
         return Err(ConnectFault::Random);
@@ -169,6 +177,7 @@ fn greeter_of<T: RandomSource>(rt: &T, alloc: Global) -> Result<Greeter, Connect
     Ok(Greeter {
         alloc,
         servers: None,
+        key,
         drawn,
         greetings: 0,
     })
@@ -222,11 +231,13 @@ fn tell_entry<E: Write>(
     Ok(())
 }
 
-// What the file of this name keeps of sessions; nothing, where there is no name. A last entry that was dropped is told.
+// What the file of this name keeps of sessions, at the store of this key or at an open one; nothing, where there is no name. What is kept of another store
+// isn't touched. A last entry that was dropped is told.
 fn found_in<E: Write, T: Files<File = File>>(
     rt: &T,
     alloc: Global,
     name: Option<&str>,
+    key: &Option<StoreKey>,
     run: u32,
     errors: &mut E,
 ) -> Result<Found, ConnectFault>
@@ -238,7 +249,11 @@ fn found_in<E: Write, T: Files<File = File>>(
             sessions: nothing_kept(alloc)?,
         });
     };
+    let label = format!(in alloc; "{path}.store")?;
+    let _ = look_for_label(rt, alloc, label.as_str(), key)?;
     let Remembered { memory, all, entry } = remember(rt, alloc, path, run)?;
+    // Nobody else has the file by now.
+    keep_label(rt, alloc, label.as_str(), key)?;
     if let Some(entry) = entry {
         tell_entry(alloc, errors, path, entry)?;
     }
@@ -329,13 +344,15 @@ fn desk_of(
     }
 }
 
-/// Does the lines of an input as they come, at the servers of the plan, until it ends, or until a line can't be done that no person types. What
+/// Does the lines of an input as they come, at the servers of the plan, until it ends, or until a line can't be done that no person types. With the key of a
+/// store a server that doesn't prove that it has that key is asked nothing. What
 /// sessions read and wrote is kept in a file, and what they were served goes into another, where these have names. Where the plan asks for something else
 /// than the session of short lines did when it was kept, that is told, and nothing is asked.
 pub fn connect_plan<I, W, E, T>(
     rt: &T,
     alloc: Global,
     plan: &Plan,
+    key: Option<StoreKey>,
     names: Names<'_>,
     input: Input<I>,
     output: &mut Output<W>,
@@ -349,7 +366,7 @@ where
 {
     let run = drawn_run(rt)?;
     let first_number = first_number(rt, names.state.is_some())?;
-    let Found { state, sessions } = found_in(rt, alloc, names.state, run, errors)?;
+    let Found { state, sessions } = found_in(rt, alloc, names.state, &key, run, errors)?;
     let Some(asks) = own_asks(plan, &sessions, OWN) else {
         if let (Some(path), Some(said), Some(kept)) = (
             names.state,
@@ -368,7 +385,7 @@ where
         state,
         book,
         plan.timeout_seconds,
-        greeter_of(rt, alloc)?,
+        greeter_of(rt, alloc, key)?,
     )?;
     let mut desk = desk_of(alloc, plan, store, run, first_number, OWN, asks);
     do_lines(rt, &mut desk, input, output, errors)

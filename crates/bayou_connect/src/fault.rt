@@ -1,4 +1,5 @@
 use crate::lines::LineFault;
+use bayou_key_file::{LabelFault, StoreName};
 use bayou_print::RunFault;
 use std::alloc::{AllocError, AllocFailed};
 use thiserror::Error;
@@ -30,6 +31,12 @@ pub enum ConnectFault {
     /// A call of the state file failed.
     #[error("a call of the file failed")]
     State,
+    /// Its label says that the state is of the store of this name, whose key wasn't given.
+    #[error("it is of the store {0}; give its key by --key")]
+    OtherStore(StoreName),
+    /// The label of the state can't be read or written, or is none.
+    #[error("its .store can't be read or written, or says no store")]
+    NotALabel,
     /// The file of the book can't be opened or locked, or is of another number of servers.
     #[error("it can't be opened, another process has it, or it is of other servers")]
     BookNotOpened,
@@ -45,6 +52,8 @@ impl ConnectFault {
             ConnectFault::StateNotOpened
             | ConnectFault::NotAState
             | ConnectFault::StateDamaged { .. }
+            | ConnectFault::OtherStore(_)
+            | ConnectFault::NotALabel
             | ConnectFault::State => true,
             ConnectFault::Input
             | ConnectFault::LinesNotOpened
@@ -86,6 +95,16 @@ impl<T: Drop> From<AllocFailed<T>> for ConnectFault {
 
     fn from(_error: AllocFailed<T>) -> ConnectFault {
         ConnectFault::Memory
+    }
+}
+
+impl From<LabelFault> for ConnectFault {
+    fn from(fault: LabelFault) -> ConnectFault {
+        match fault {
+            LabelFault::OtherStore(name) => ConnectFault::OtherStore(name),
+            LabelFault::NotALabel => ConnectFault::NotALabel,
+            LabelFault::OutOfMemory => ConnectFault::Memory,
+        }
     }
 }
 

@@ -6,7 +6,7 @@ use crate::plan::Place;
 use bayou_base::ServerId;
 use bayou_base::limits::SILENT_SECONDS;
 use bayou_client::Link;
-use bayou_greeting::Stranger;
+use bayou_greeting::{StoreKey, Stranger};
 use bayou_handshake::{GreetingFault, greet_server};
 use bayou_net::Sockets;
 use bayou_streams::CountedChannel;
@@ -69,6 +69,8 @@ pub(crate) struct Greeter {
     pub(crate) alloc: Global,
     /// How many servers the store has by the words, where these say so.
     pub(crate) servers: Option<ServerCount>,
+    /// The key of the store, where it has one.
+    pub(crate) key: Option<StoreKey>,
     /// What was drawn at random.
     pub(crate) drawn: [u8; DRAWN_BYTES],
     /// How often it has greeted.
@@ -192,7 +194,8 @@ impl Access {
         self.stranger = Some(stranger);
     }
 
-    // A connection to the server over which it was greeted. One that knows no greetings is asked all the same, over a connection of its own.
+    // A connection to the server over which it was greeted. One that knows no greetings is asked all the same, over a connection of its own, where the store
+    // is open: one that has a key proves it, or is sent nothing.
     fn greeted<T: Sockets + Clock>(
         &mut self,
         rt: &T,
@@ -206,13 +209,13 @@ impl Access {
         let writer = end_of(rt, &stream, self.deadline)?;
         let mut channel = CountedChannel::new(reader, writer);
         let hello = greeter.hello(self.place.id);
-        match greet_server(greeter.alloc, &hello, &None, None, &mut channel) {
+        match greet_server(greeter.alloc, &hello, &greeter.key, None, &mut channel) {
             Ok(known) => {
                 self.known = Some(known);
                 self.stranger = None;
                 Some(stream)
             }
-            Err(GreetingFault::Stranger(Stranger::Older)) => {
+            Err(GreetingFault::Stranger(Stranger::Older)) if greeter.key.is_none() => {
                 self.meet(Stranger::Older);
                 stream_to(rt, self.place, self.deadline.left(milliseconds(rt))?)
             }

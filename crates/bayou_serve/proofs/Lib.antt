@@ -1,6 +1,8 @@
 mod Choosing
+mod Digesting
 mod Ended
 mod Gathering
+mod Greeted
 mod Living
 mod Losing
 mod Worded

@@ -2,10 +2,12 @@
 use Rattle.std.specs.Prelude.{◌≡◌, ◌≢◌, Option, None, Some}
 use Rattle.bayou_journal.specs.declared.careful.Damage.{Damage}
 use Rattle.bayou_serve.specs.declared.fault.ServeFault.{ServeFault}
-use Rattle.bayou_serve.specs.declared.fault.ServeFault.TheVariants.{NotOpened, Missing, Present, Device, Damaged, NotAJournal, OtherServer, BadRecord, Gap, LogFull, OwnLost, Lost, MarkFailed, NotRestored, Memory, Port, NoDescriptor, Output}
+use Rattle.bayou_serve.specs.declared.fault.ServeFault.TheVariants.{NotOpened, Missing, Present, Device, Damaged, NotAJournal, OtherServer, BadRecord, Gap, LogFull, OwnLost, Lost, MarkFailed, OtherStore, NotALabel, NotRestored, Memory, Port, NoDescriptor, Output}
 use Rattle.bayou_serve.specs.declared.fault.Unrestored.TheVariants as why
 use Rattle.bayou_serve.specs.declared.plan.Beginning.{Beginning}
 use Rattle.bayou_serve.specs.declared.plan.Beginning.TheVariants.{GoOn}
+use Rattle.bayou_key_file.specs.declared.fault.LabelFault.{LabelFault}
+use Rattle.bayou_key_file.specs.declared.fault.LabelFault.TheVariants as labels
 use Rattle.bayou_restore.specs.declared.fault.RestoreFault.{RestoreFault}
 use Rattle.bayou_restore.specs.declared.fault.RestoreFault.TheVariants as restores
 use Rattle.bayou_server.specs.declared.fault.JournalFault.TheVariants as journals
@@ -35,6 +37,12 @@ unrestored_as restores.Device = NotRestored why.Device
 unrestored_as restores.NotEmpty = NotRestored why.Device
 unrestored_as restores.OutOfMemory = Memory
 
+-- what is wrong with a label is told by its own name
+abbrev pub labelled_as : LabelFault → ServeFault
+labelled_as (labels.OtherStore name) = OtherStore name
+labelled_as labels.NotALabel = NotALabel
+labelled_as labels.OutOfMemory = Memory
+
 -- what may end the look for a journal: it is missing only where none is to be made, and in the way only where one is
 abbrev pub MayEndLook : Beginning → ServeFault → Type 0
 MayEndLook beginning Missing = beginning ≡ GoOn
@@ -42,7 +50,7 @@ MayEndLook beginning Present = beginning ≢ GoOn
 MayEndLook beginning NotOpened = Unit {0}
 MayEndLook beginning _ = ⊥
 
--- what may end a start: the same, or what the journal or memory is at fault for; no mark and no peer was asked yet, and no socket and no output
+-- what may end a start: the same, or what the journal or memory is at fault for; no mark, no label and no peer was asked yet, and no socket and no output
 -- is there
 abbrev pub MayEndStart : Beginning → ServeFault → Type 0
 MayEndStart beginning Missing = beginning ≡ GoOn
@@ -50,6 +58,8 @@ MayEndStart beginning Present = beginning ≢ GoOn
 MayEndStart beginning (OwnLost peer) = ⊥
 MayEndStart beginning Lost = ⊥
 MayEndStart beginning MarkFailed = ⊥
+MayEndStart beginning (OtherStore name) = ⊥
+MayEndStart beginning NotALabel = ⊥
 MayEndStart beginning (NotRestored why) = ⊥
 MayEndStart beginning Port = ⊥
 MayEndStart beginning NoDescriptor = ⊥

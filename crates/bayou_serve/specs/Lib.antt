@@ -13,3 +13,4 @@ pub mod Told
 pub mod Visits
 pub mod Words
 pub mod Greeting
+pub mod HeldDigests

@@ -2,6 +2,7 @@ ghost use Rattle.std.specs.Prelude.{◌≡◌};
 ghost use Rattle.bayou_serve.specs.Faults.{told_as};
 
 use bayou_journal::Damage;
+use bayou_key_file::{LabelFault, StoreName};
 use bayou_restore::RestoreFault;
 use bayou_server::{JournalFault, StartFault};
 use std::alloc::AllocError;
@@ -70,6 +71,12 @@ pub enum ServeFault {
     /// The mark can't be opened or locked, or a call of it failed.
     #[error("its .mark can't be read or written, or another process has it")]
     MarkFailed,
+    /// Its label says that it is of the store of this name, whose key wasn't given.
+    #[error("it is of the store {0}; give its key by --key")]
+    OtherStore(StoreName),
+    /// The label can't be read or written, or is none.
+    #[error("its .store can't be read or written, or says no store")]
+    NotALabel,
     #[error("not restored: {0}")]
     NotRestored(Unrestored),
     #[error("memory")]
@@ -106,6 +113,21 @@ impl From<AllocError> for ServeFault {
 
     fn from(_error: AllocError) -> ServeFault {
         ServeFault::Memory
+    }
+}
+
+impl From<LabelFault> for ServeFault {
+    ghost use Rattle.std.specs.Prelude.{◌≡◌};
+    ghost use Rattle.bayou_serve.specs.Faults.{labelled_as};
+
+    ghost from_gives = { λ refusal fault. fault ≡ labelled_as refusal };
+
+    fn from(fault: LabelFault) -> ServeFault {
+        match fault {
+            LabelFault::OtherStore(name) => ServeFault::OtherStore(name),
+            LabelFault::NotALabel => ServeFault::NotALabel,
+            LabelFault::OutOfMemory => ServeFault::Memory,
+        }
     }
 }
 

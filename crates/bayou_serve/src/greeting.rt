@@ -2,7 +2,7 @@
 ghost use Rattle.std.specs.Prelude.{◌≡◌, ◌↔◌, ℕ, IfOk, IfSome, IsTrue, List, None, Option, Some, false, true};
 ghost use Rattle.std.specs.Io.KnownBytes.{Consumes};
 ghost use Rattle.bayou_handshake.specs.Ends.{IsKnownServer, IsLetIn};
-ghost use Rattle.bayou_serve.specs.Greeting.{hello_to};
+ghost use Rattle.bayou_serve.specs.Greeting.{MayAsk, hello_to};
 
 use crate::hall::Hall;
 use crate::peers::reach;
@@ -10,12 +10,12 @@ use crate::plan::{Peer, Plan};
 use crate::waiting::{Most, Since, Waiting};
 use bayou_base::ServerId;
 use bayou_base::limits::GREETING_MILLISECONDS;
-use bayou_greeting::Stranger;
-use bayou_handshake::{GreetingFault, Guest, StoreServer, greet_server, make_known, receive};
+use bayou_greeting::{StoreKey, Stranger};
+use bayou_handshake::{GreetingFault, Guest, StoreServer, greet_server, receive};
 use bayou_net::Sockets;
 use bayou_streams::{CountedChannel, Patient};
 use bayou_wire::layout::{GREETING_VERSION, NONCE_BYTES};
-use bayou_wire::{Hello, Known, Nonce, ServerCount};
+use bayou_wire::{Held, Hello, Known, Nonce, ServerCount};
 use std::alloc::{AllocError, Global};
 use std::io::{Read, Write};
 use std::net::TcpStream;
@@ -31,11 +31,11 @@ fn drawn<T: RandomSource>(rt: &T) -> Option<Nonce> {
     Some(Nonce::new(bytes))
 }
 
-/// What the server of this plan goes by in greetings: its store is an open one.
-pub(crate) fn store_server(plan: &Plan) -> StoreServer
+/// What the server of this plan goes by in greetings, where its store has this key.
+pub(crate) fn store_server(plan: &Plan, key: Option<StoreKey>) -> StoreServer
     ensures id { result.id ≡ plan.now.id }
     ensures servers { result.servers.count ≡ plan.now.servers }
-    ensures key { result.key ≡ None }
+    ensures key { result.key ≡ key }
 {
     let Some(servers) = ServerCount::new(plan.servers) else {
         unreachable!();
@@ -43,8 +43,15 @@ pub(crate) fn store_server(plan: &Plan) -> StoreServer
     StoreServer {
         id: plan.id,
         servers,
-        key: None,
+        key,
     }
+}
+
+/// Who was let in, and what the server drew for that greeting.
+#[derive(Clone, Copy, Debug, PartialEq, Eq)]
+pub(crate) struct LetIn {
+    pub(crate) guest: Guest,
+    pub(crate) nonce: Nonce,
 }
 
 // Greets who asks over these streams, whose waits end by `WouldBlock`, with this number: who it is, once it is let in.
@@ -67,20 +74,20 @@ fn receive_over<'x, R: Read + Drop, W: Write + Drop, C: Clock>(
     receive(alloc, own, nonce, &mut channel).ok()
 }
 
-/// Greets who asks over this connection, as this server: who it is, once it is let in and was told what is held.
+/// Greets who asks over this connection, as this server: who it is, once it is let in. What is held it isn't told yet.
 pub(crate) fn receive_guest<C: Clock + RandomSource>(
     alloc: Global,
     own: &StoreServer,
-    known: Known,
     hall: &Hall,
     clock: &C,
     stream: &TcpStream,
-) -> Option<Guest> {
+) -> Option<LetIn>
+    ensures { IfSome result (λ let_in. MayAsk own.now (Some let_in)) }
+{
     let nonce = drawn(clock)?;
     let since = Since::now(clock);
     let guest = receive_over(alloc, own, nonce, hall, clock, &since, stream, stream)?;
-    make_known(alloc, known, &mut CountedChannel::new((), stream)).ok()?;
-    Some(guest)
+    Some(LetIn { guest, nonce })
 }
 
 // How this server greets that peer.
@@ -101,6 +108,7 @@ fn greet_over<'x, R: Read + Drop, W: Write + Drop, C: Clock>(
     alloc: Global,
     own: &StoreServer,
     hello: &Hello,
+    held: Option<Held>,
     hall: &'x Hall,
     clock: &'x C,
     since: &'x Since,
@@ -108,12 +116,12 @@ fn greet_over<'x, R: Read + Drop, W: Write + Drop, C: Clock>(
     writer: W,
 ) -> Result<Known, GreetingFault>
     ensures { IfOk result (λ known. (rest : Option (List ℕ)) × (read written : List ℕ) × Consumes (R.remaining reader) rest read
-        × IsKnownServer hello.now own.now.key None read written known) }
+        × IsKnownServer hello.now own.now.key held read written known) }
 {
     let most = Most::Milliseconds(GREETING_MILLISECONDS);
     let reader = Patient::new(reader, Waiting::new(clock, hall, since, most));
     let mut channel = CountedChannel::new(reader, writer);
-    greet_server(alloc, hello, &own.key, None, &mut channel)
+    greet_server(alloc, hello, &own.key, held, &mut channel)
 }
 
 /// A way to a peer.
@@ -123,8 +131,19 @@ pub(crate) enum Way {
     Away,
     /// Who answers there isn't that peer.
     Stranger(Stranger),
-    /// It is that peer, which waits for a request. An older one knows no greetings.
-    Open { stream: TcpStream, is_older: bool },
+    /// It is that peer, which made this known and waits for a request. An older one knows no greetings.
+    Open {
+        stream: TcpStream,
+        is_older: bool,
+        known: Option<Known>,
+    },
+    /// It is that peer, which says that it has other Writes of this origin, and answers what is asked of digests.
+    Differs {
+        stream: TcpStream,
+        origin: ServerId,
+    },
+    /// It is that peer, and one of both has other Writes of this origin than the other, which both were told.
+    Apart(ServerId),
 }
 
 // Greets the peer over this connection.
@@ -134,6 +153,7 @@ fn greet_at<T: Clock + RandomSource>(
     own: &StoreServer,
     peer: Peer,
     hall: &Hall,
+    held: Option<Held>,
     stream: &TcpStream,
 ) -> Result<Known, GreetingFault> {
     let Some(nonce) = drawn(rt) else {
@@ -141,26 +161,32 @@ fn greet_at<T: Clock + RandomSource>(
     };
     let since = Since::now(rt);
     let hello = hello(own, peer.id, nonce);
-    greet_over(alloc, own, &hello, hall, rt, &since, stream, stream)
+    greet_over(alloc, own, &hello, held, hall, rt, &since, stream, stream)
 }
 
-/// A way to the peer, which is greeted first. An older one is asked all the same, over a connection of its own.
+/// A way to the peer, which is greeted first, and told this of what is held. At an open store an older one is asked all the same, over a connection of
+/// its own; at one that has a key there is no way but to a peer that has it too.
 pub(crate) fn way_to<T: Clock + RandomSource + Sockets>(
     rt: &T,
     alloc: Global,
     own: &StoreServer,
     peer: Peer,
     hall: &Hall,
+    held: Option<Held>,
 ) -> Way {
     let Some(stream) = reach(rt, peer) else {
         return Way::Away;
     };
-    match greet_at(rt, alloc, own, peer, hall, &stream) {
-        Ok(_) => Way::Open {
+    match greet_at(rt, alloc, own, peer, hall, held, &stream) {
+        Ok(known) => Way::Open {
             stream,
             is_older: false,
+            known: Some(known),
         },
-        Err(GreetingFault::Stranger(Stranger::Older)) => older_way_to(rt, peer),
+        Err(GreetingFault::Differs(origin)) => Way::Differs { stream, origin },
+        Err(GreetingFault::Stranger(Stranger::Older)) if own.key.is_none() => {
+            older_way_to(rt, peer)
+        }
         Err(GreetingFault::Stranger(stranger)) => Way::Stranger(stranger),
         Err(_) => Way::Away,
     }
@@ -172,6 +198,7 @@ fn older_way_to<T: Sockets>(rt: &T, peer: Peer) -> Way {
         Some(stream) => Way::Open {
             stream,
             is_older: true,
+            known: None,
         },
         None => Way::Away,
     }

@@ -10,11 +10,15 @@
 //! a thread gets on, that a peer answers, or that a file holds what was written to it.
 #![tactic(auto)]
 
+mod answering;
+mod compared_way;
+mod comparing;
 mod descriptors;
 pub mod fault;
 pub mod filling;
 pub mod greeting;
 mod hall;
+pub mod held_digests;
 mod keeper;
 mod lines;
 mod marking;
@@ -28,6 +32,7 @@ pub mod reminding;
 mod restoring;
 mod rollcall;
 pub mod rooms;
+mod searching;
 pub mod serving;
 mod starting;
 mod staying;
@@ -39,5 +44,5 @@ pub mod watched;
 
 pub use fault::{ServeFault, Unrestored};
 pub use plan::{Beginning, Habits, Peer, Plan, PlanFault};
-pub use serving::serve_plan;
+pub use serving::{Paths, serve_plan};
 pub use teller::Teller;

@@ -2,7 +2,9 @@
 ghost use Rattle.std.specs.Prelude.{◌≡◌, ◌↔◌, IfSome, IsSome, true};
 ghost use Rattle.bayou_serve.specs.Visits.{Visited};
 
-use crate::greeting::{Strangers, Way, stranger_line, way_to};
+use crate::compared_way::compared_way_to;
+use crate::comparing::Comparison;
+use crate::greeting::{Strangers, Way, stranger_line};
 use crate::hall::Hall;
 use crate::lines::news_line;
 use crate::marking::{Loss, Mark, lose};
@@ -99,6 +101,7 @@ pub(crate) struct Visiting<'a, M: Device, E> {
     pub(crate) mark: &'a Mark<M>,
     pub(crate) teller: &'a Teller<E>,
     pub(crate) rollcall: &'a Rollcall,
+    pub(crate) comparison: &'a Comparison,
 }
 
 /// What is known of a peer.
@@ -108,7 +111,7 @@ struct Known {
     strangers: Strangers,
 }
 
-// Takes once what this peer has and the server lacks, if who answers is that peer.
+// Takes once what this peer has and the server lacks, if who answers is that peer, and both hold the same Writes under the same names.
 fn visit<D: Device, L: Desks, M: Device, E: Write, T: Wait + Clock + RandomSource + Sockets>(
     rt: &T,
     alloc: Global,
@@ -118,11 +121,15 @@ fn visit<D: Device, L: Desks, M: Device, E: Write, T: Wait + Clock + RandomSourc
     known: &mut Known,
 ) -> Option<Outcome> {
     let hall = visiting.hall;
-    match way_to(rt, alloc, visiting.own, peer, hall) {
+    match compared_way_to(rt, alloc, node, peer, visiting) {
         Way::Away => Some(Outcome {
             visit: Visit::Away,
             has_lost: false,
         }),
+        Way::Differs { .. } | Way::Apart(_) => {
+            known.visits = Acquaintance::new();
+            None
+        }
         Way::Stranger(stranger) => {
             known.visits = Acquaintance::new();
             if known.strangers.met(&stranger) {
@@ -132,7 +139,11 @@ fn visit<D: Device, L: Desks, M: Device, E: Write, T: Wait + Clock + RandomSourc
             }
             None
         }
-        Way::Open { stream, is_older } => {
+        Way::Open {
+            stream,
+            is_older,
+            ..
+        } => {
             if known.strangers.met_itself(is_older) {
                 visiting
                     .teller

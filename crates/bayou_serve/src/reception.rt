@@ -1,8 +1,12 @@
 //! How a connection is served for as long as there is patience with it.
-ghost use Rattle.std.specs.Prelude.{◌≡◌};
+ghost use Rattle.std.specs.Prelude.{◌≡◌, ◌↔◌, IfSome, IsSome, None};
+ghost use Rattle.std.proofs.Props.{props};
+ghost use Rattle.bayou_serve.specs.Greeting.{MayAsk};
 ghost use Rattle.bayou_serve.specs.Receiving.{ServedOver, first_by};
 
-use crate::greeting::receive_guest;
+use crate::answering::answer_guest;
+use crate::comparing::Comparison;
+use crate::greeting::{LetIn, receive_guest};
 use crate::hall::Hall;
 use crate::peers::is_timed;
 use crate::rooms::{Place, Rooms};
@@ -15,7 +19,6 @@ use bayou_handshake::StoreServer;
 use bayou_net::{Attendant, Host, NoGate, drop_rest, serve_with_leave};
 use bayou_node::{Desk, Desks, Node};
 use bayou_streams::{CountedChannel, Patience, Patient};
-use bayou_wire::Known;
 use bayou_wire::layout::{KIND_HELLO, KIND_OFFER};
 use std::alloc::Global;
 use std::io::{ErrorKind, Read, Write};
@@ -36,9 +39,21 @@ pub(crate) struct Reception<'a, D, L: Desks, C, E> {
     pub(crate) rooms: &'a Rooms,
     pub(crate) clock: &'a C,
     pub(crate) teller: &'a Teller<E>,
+    pub(crate) comparison: &'a Comparison,
     pub(crate) own: &'a StoreServer,
     /// How many Writes it may hold.
     pub(crate) limit: u32,
+}
+
+/// That requests of a connection may reach the node: who asks greeted, was let in and was told what is held; or the store is open. Nothing is served
+/// without one.
+#[derive(Drop)]
+struct Admission<'a> {
+    own: &'a StoreServer,
+    let_in: Option<LetIn>,
+    /// Whether it is a peer that asks.
+    is_peer: bool,
+    ghost may_ask: { MayAsk own.now let_in } by { Prim.hlevel props },
 }
 
 /// A connection that was served: the desk, and whether it ended since a stream failed, or was waited for in vain.
@@ -48,20 +63,24 @@ struct Received<L: Desks> {
     is_silent: bool,
 }
 
-// Serves the requests that come in time over these streams, whose waits end by `WouldBlock`, Writes as long as the hall gives leave.
+// Serves the requests that come in time over these streams, whose waits end by `WouldBlock`, of who may ask; Writes as long as the hall gives leave.
 fn serve_over<D: Device, L: Desks, C: Clock, R: Read + Drop, W: Write + Drop, T: Wait>(
     rt: &T,
     alloc: Global,
     node: &Node<D, L>,
     desk: Desk<L>,
+    admission: &Admission<'_>,
     hall: &Hall,
     clock: &C,
     place: &Place,
     reader: R,
     writer: W,
 ) -> Received<L>
-    ensures { ServedOver L.begun desk result.desk (R.remaining reader) (W.contents writer) }
+    // At a store that has a key the node is reached by who proved to have it alone.
+    ensures admitted { MayAsk admission.now.own.now admission.now.let_in }
+    ensures served { ServedOver L.begun desk result.desk (R.remaining reader) (W.contents writer) }
 {
+    let _ = admission;
     let most = Most::Placed(hall.idle_milliseconds(), place);
     let patience = Waiting::new(clock, hall, &place.since, most);
     let heard = Heard::new(reader, clock, place);
@@ -98,8 +117,17 @@ fn first_of(kind: u8) -> First
     }
 }
 
-// What comes first over the connection; nothing where nothing comes in time.
-fn first_over<P: Patience, C: Clock>(clock: &C, stream: &TcpStream, patience: P) -> Option<First> {
+/// What is seen of a frame that comes.
+#[derive(Clone, Copy, Debug, PartialEq, Eq)]
+pub(crate) enum Front {
+    /// Its length and its kind came, which is this.
+    Kind(u8),
+    /// Less came, and no more in time.
+    Short,
+}
+
+// The front of what comes next over the connection; nothing where nothing comes in time.
+fn front_over<P: Patience, C: Clock>(clock: &C, stream: &TcpStream, patience: P) -> Option<Front> {
     let mut patience = patience;
     let mut front = [0; 3];
     let mut is_begun = false;
@@ -111,9 +139,9 @@ fn first_over<P: Patience, C: Clock>(clock: &C, stream: &TcpStream, patience: P)
             Ok(0) => return None,
             Ok(count) if is_begun || count == front.len() => {
                 return Some(if count == front.len() {
-                    first_of(front[2])
+                    Front::Kind(front[2])
                 } else {
-                    First::Other
+                    Front::Short
                 });
             }
             Ok(_) => {
@@ -127,32 +155,67 @@ fn first_over<P: Patience, C: Clock>(clock: &C, stream: &TcpStream, patience: P)
     None
 }
 
-// What comes first over the connection, as long as the hall waits for it.
-fn first_in_time<'x, C: Clock>(
+/// As [`front_over`], as long as it is waited for at the most.
+pub(crate) fn front_in_time<'x, C: Clock>(
     clock: &'x C,
     hall: &'x Hall,
     since: &'x Since,
+    most: Most<'x>,
+    stream: &TcpStream,
+) -> Option<Front> {
+    front_over(clock, stream, Waiting::new(clock, hall, since, most))
+}
+
+// What comes first over the connection, as long as the hall waits for it.
+fn first_in_time<C: Clock>(
+    clock: &C,
+    hall: &Hall,
+    since: &Since,
     stream: &TcpStream,
 ) -> Option<First> {
-    let patience = Waiting::new(clock, hall, since, Most::Hall);
-    first_over(clock, stream, patience)
+    match front_in_time(clock, hall, since, Most::Hall, stream)? {
+        Front::Kind(kind) => Some(first_of(kind)),
+        Front::Short => Some(First::Other),
+    }
 }
 
 impl<D: Device, L: Desks, C: Clock + RandomSource, E: Write> Reception<'_, D, L, C, E> {
-    // Whether it is a peer that asks over the connection, once something is asked; nothing where nobody does in time, or who greets isn't let in.
-    fn is_peer<T: Wait>(&self, rt: &T, alloc: Global, stream: &TcpStream) -> Option<bool> {
+    // That who asks this without a greeting may ask: at an open store alone.
+    fn ungreeted(&self, first: First) -> Option<Admission<'_>>
+        ensures own { IfSome result (λ admission. (admission.own ≡ self.now.own) × (admission.let_in ≡ None)) }
+        ensures open { IsSome result ↔ (self.now.own.now.key ≡ None) }
+    {
+        match &self.own.key {
+            Some(_) => None,
+            None => Some(Admission {
+                own: self.own,
+                let_in: None,
+                is_peer: first == First::Offer,
+            }),
+        }
+    }
+
+    // That who asks over the connection may ask, once something is asked; nothing where nobody does in time, or who greets isn't let in, or holds other
+    // Writes. At a store that has a key who asks must greet.
+    fn admit<T: Wait>(&self, rt: &T, alloc: Global, stream: &TcpStream) -> Option<Admission<'_>>
+        ensures { IfSome result (λ admission. admission.own ≡ self.now.own) }
+    {
         let since = Since::now(self.clock);
         match first_in_time(self.clock, self.hall, &since, stream)? {
             First::Hello => {
-                let known = Known {
-                    vector: self.node.offer(rt),
-                    limit: self.limit,
-                    digests: None,
-                };
-                let guest = receive_guest(alloc, self.own, known, self.hall, self.clock, stream)?;
-                Some(guest.hello.from.is_some())
+                let own = self.own;
+                let let_in = receive_guest(alloc, own, self.hall, self.clock, stream)?;
+                if !answer_guest(rt, alloc, self, &let_in.guest, stream) {
+                    return None;
+                }
+                let is_peer = let_in.guest.hello.from.is_some();
+                Some(Admission {
+                    own,
+                    let_in: Some(let_in),
+                    is_peer,
+                })
             }
-            first => Some(first == First::Offer),
+            first => self.ungreeted(first),
         }
     }
 
@@ -162,11 +225,12 @@ impl<D: Device, L: Desks, C: Clock + RandomSource, E: Write> Reception<'_, D, L,
         rt: &T,
         alloc: Global,
         desk: Desk<L>,
+        admission: &Admission<'_>,
         place: &Place,
         stream: &TcpStream,
     ) -> Received<L> {
         let received = serve_over(
-            rt, alloc, self.node, desk, self.hall, self.clock, place, stream, stream,
+            rt, alloc, self.node, desk, admission, self.hall, self.clock, place, stream, stream,
         );
         let _ = stream.shutdown(Shutdown::Write);
         received
@@ -188,10 +252,10 @@ impl<D: Device, L: Desks, C: Clock + RandomSource, E: Write> Reception<'_, D, L,
         desk: Desk<L>,
         stream: &TcpStream,
     ) -> Desk<L> {
-        let Some(is_peer) = self.is_peer(rt, alloc, stream) else {
+        let Some(admission) = self.admit(rt, alloc, stream) else {
             return desk;
         };
-        let room = self.rooms.room_of(is_peer);
+        let room = self.rooms.room_of(admission.is_peer);
         if room.is_full() && self.hall.full.is_due(self.clock) {
             self.teller
                 .tell(rt, "bayou: each desk is taken, and others wait for one\n");
@@ -199,7 +263,7 @@ impl<D: Device, L: Desks, C: Clock + RandomSource, E: Write> Reception<'_, D, L,
         let Some(place) = room.enter(self.clock, self.hall) else {
             return desk;
         };
-        let received = self.serve_requests(rt, alloc, desk, place, stream);
+        let received = self.serve_requests(rt, alloc, desk, &admission, place, stream);
         place.leave();
         if !received.is_silent {
             self.linger(stream);

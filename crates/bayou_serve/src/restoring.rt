@@ -91,8 +91,9 @@ fn gather_from<T: Clock + RandomSource + Sockets>(
 ) -> Gathering
     ensures { (answer : Result Gatherer PullFailure) → result ≡ Answered answer → IfOk answer (λ gathered. gathered.count ≡ plan.now.servers) }
 {
-    let stream = match way_to(rt, alloc, own, peer, hall) {
-        Way::Away => return Gathering::Away,
+    let stream = match way_to(rt, alloc, own, peer, hall, None) {
+        // Who tells no digests isn't told that it differs.
+        Way::Away | Way::Differs { .. } | Way::Apart(_) => return Gathering::Away,
         Way::Stranger(stranger) => return Gathering::Stranger(stranger),
         Way::Open { stream, .. } => stream,
     };

@@ -3,7 +3,8 @@ ghost use Rattle.std.specs.Prelude.{◌≡◌, ◌↔◌, IsTrue, true};
 ghost use Rattle.bayou_serve.specs.declared.rollcall.FirstAnswer.TheVariants.{Told};
 ghost use Rattle.bayou_serve.specs.Losing.{AsksForOwn};
 
-use crate::greeting::{Way, way_to};
+use crate::compared_way::compared_way_to;
+use crate::greeting::Way;
 use crate::hall::Hall;
 use crate::peers::Visiting;
 use crate::plan::Peer;
@@ -89,9 +90,13 @@ where
     E: Write,
     T: Wait + Clock + RandomSource + Sockets,
 {
-    match way_to(rt, alloc, visiting.own, peer, visiting.hall) {
+    match compared_way_to(rt, alloc, node, peer, visiting) {
         Way::Away => FirstAnswer::None,
         Way::Stranger(stranger) => FirstAnswer::Stranger(stranger),
+        // Its other Writes of this server are some that the server lacks.
+        Way::Differs { origin, .. } | Way::Apart(origin) => {
+            FirstAnswer::Told(origin == visiting.own.id)
+        }
         Way::Open { stream, .. } => {
             let (hall, since) = (visiting.hall, visiting.rollcall.since());
             match asked_over(rt, alloc, node, hall, since, &stream, &stream) {

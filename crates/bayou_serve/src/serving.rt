@@ -7,6 +7,7 @@ ghost use Rattle.bayou_serve.specs.declared.fault.ServeFault.TheVariants.{Output
 ghost use Rattle.bayou_serve.specs.Lived.{IsBeforeServing, PrintsLife};
 ghost use Rattle.bayou_streams.specs.Account.{TakesBytes, account};
 
+use crate::comparing::Comparison;
 use crate::descriptors::look_for_descriptors;
 use crate::fault::ServeFault;
 use crate::greeting::store_server;
@@ -26,7 +27,9 @@ use crate::teller::Teller;
 use crate::watched::Extent;
 use bayou_base::limits::{DESKS_OF_A_PEER, WAITING_CONNECTIONS};
 use bayou_device::Device;
+use bayou_greeting::StoreKey;
 use bayou_handshake::StoreServer;
+use bayou_key_file::{keep_label, look_for_label};
 use bayou_net::{Door, Sockets, attend, shut};
 use bayou_node::{Desk, Desks, Node};
 use bayou_print::{held_line, serving_line, settled_line, write_text};
@@ -57,6 +60,7 @@ struct Life<'s, D, L: Desks, M: Device, E> {
     rollcall: &'s Rollcall,
     rooms: &'s Rooms,
     own: &'s StoreServer,
+    comparison: &'s Comparison,
 }
 
 /// How a server began to serve, and where that was printed.
@@ -99,6 +103,7 @@ where
         teller,
         rollcall,
         own,
+        comparison,
         ..
     } = *life;
     let (limit, every) = (plan.habits.limit, plan.habits.every_seconds);
@@ -110,6 +115,7 @@ where
             mark,
             teller,
             rollcall,
+            comparison,
         };
         let begun = scope.spawn(move || keep_pulling(rt, alloc, node, peer, every, &visiting));
         if begun.is_err() {
@@ -157,6 +163,7 @@ where
         rooms,
         plan,
         own,
+        comparison,
         ..
     } = *life;
     let reception = Reception {
@@ -165,6 +172,7 @@ where
         rooms,
         clock: rt,
         teller,
+        comparison,
         own,
         limit: plan.habits.limit,
     };
@@ -424,6 +432,7 @@ fn serve_node<L, M, I, W, E, T>(
     journal: Journal<'_>,
     plan: &Plan,
     own: &StoreServer,
+    comparison: &Comparison,
     listener: &TcpListener,
     mark: &Mark<M>,
     input: I,
@@ -467,6 +476,7 @@ where
         rollcall: &rollcall,
         rooms: &rooms,
         own,
+        comparison,
     };
     let Ok((desks, ended)) = live_begun(rt, alloc, &life, desks, copy, input, output) else {
         return Err(ServeFault::Memory);
@@ -505,7 +515,7 @@ fn tell_dropped<E: Write, T: Wait>(
 fn serve_started<M, I, W, E, T>(
     rt: &T,
     alloc: Global,
-    path: &str,
+    paths: Paths<'_>,
     plan: &Plan,
     own: &StoreServer,
     started: Started<'_>,
@@ -528,27 +538,54 @@ where
     ensures open { OnOk result (is_open.new ≡ true) }
     ensures shut { IfErr result (λ fault. IsBeforeServing fault → is_open.new ≡ is_open.old) }
 {
+    let path = paths.journal;
     tell_dropped(rt, alloc, path, &started, teller);
     let Started { server, file, .. } = started;
     let journal = Journal { path, file, extent };
     let Ok(listener) = TcpListener::bind(rt, plan.listen) else {
         return Err(ServeFault::Port);
     };
+    // Nobody else has the journal by now, and nobody was served yet.
+    keep_label(rt, alloc, paths.label, &own.key)?;
+    let comparison = Comparison::new(alloc)?;
     let threads = threads_of(plan);
     let blank = Blank::new(u64::from(threads));
     serve_node::<Brand, M, I, W, E, T>(
-        rt, alloc, blank, threads, server, journal, plan, own, &listener, mark, input, output,
-        teller, is_open,
+        rt,
+        alloc,
+        blank,
+        threads,
+        server,
+        journal,
+        plan,
+        own,
+        &comparison,
+        &listener,
+        mark,
+        input,
+        output,
+        teller,
+        is_open,
     )
 }
 
-/// Serves what the plan says, with the journal in this file, until the input ends, where the plan asks for that, or for ever. What is told
-/// beside the printed lines goes to the teller. A server that is marked beside its journal as one that lost Writes of its own isn't served, but
-/// for one whose journal is made again. That anybody is served no clause can say, nor that it ends where it was told to.
+/// The files of a server, by their names.
+#[derive(Clone, Copy, Debug)]
+pub struct Paths<'a> {
+    pub journal: &'a str,
+    /// What says of which store the journal is.
+    pub label: &'a str,
+}
+
+/// Serves what the plan says, as a server of the store that has this key, or of an open one, with the journal in this file, until the input ends, where the
+/// plan asks for that, or for ever. What is told beside the printed lines goes to the teller. A server that is marked beside its journal as one that lost
+/// Writes of its own isn't served, but for one whose journal is made again; nor is one whose label says that it is of another store. That anybody is
+/// served no clause can say, nor that it ends where it was told to.
 pub fn serve_plan<I, W, E, T>(
     rt: &T,
     alloc: Global,
-    path: &str,
+    paths: Paths<'_>,
+    key: Option<StoreKey>,
     plan: &Plan,
     input: I,
     output: &mut Output<W>,
@@ -562,9 +599,10 @@ where
     ensures lived { OnOk result (PrintsLife plan.now.id.index plan.now.servers (account W.contents output.old) (account W.contents output.new)) }
     ensures unserved { IfErr result (λ fault. IsBeforeServing fault → output.new ≡ output.old) }
 {
-    let beginning = plan.habits.beginning;
-    let own = store_server(plan);
+    let (path, beginning) = (paths.journal, plan.habits.beginning);
+    let own = store_server(plan, key);
     look_for_descriptors(rt, alloc)?;
+    let _ = look_for_label(rt, alloc, paths.label, &own.key)?;
     let mark_path = format!(in alloc; "{path}.mark")?;
     look_for_mark(rt, mark_path.as_str(), beginning)?;
     let extent = Extent::unknown();
@@ -574,7 +612,7 @@ where
         Ok(mark) => serve_started(
             rt,
             alloc,
-            path,
+            paths,
             plan,
             &own,
             started,

@@ -1,6 +1,7 @@
 -- The plans that are made of the words that ask for a server, or for a session at servers: this project's own.
-use Rattle.std.specs.Prelude.{◌≡◌, ℕ, List, MatchOption, MatchResult, Option, None, Some, option_map, string_bytes}
+use Rattle.std.specs.Prelude.{◌≡◌, ◌≢◌, ◌↔◌, ◌++◌, ℕ, List, MatchOption, MatchResult, Option, None, Some, codes, decimal, option_map, string_bytes, true}
 use Rattle.std.specs.List.{AllZip}
+use Rattle.bayou_base.specs.Key.{key_fault}
 use Rattle.bayou_command.specs.Connect.{Connection}
 use Rattle.bayou_command.specs.Options.{Input, file, standard}
 use Rattle.bayou_command.specs.Serve.{Service}
@@ -12,6 +13,7 @@ use Rattle.bayou_serve.specs.Words.{Refuses, SaysListen, SaysPeer}
 use Rattle.bayou_serve.specs.declared.plan.Plan.{Plan}
 use Rattle.bayou_serve.specs.declared.plan.PlanFault.{PlanFault}
 use Rattle.bayou_shell.specs.declared.connected.Call.{Call}
+use Rattle.bayou_shell.specs.declared.keyed.NewKey.{NewKey}
 use Rattle.bayou_shell.specs.declared.served.Service.{Service as Living}
 use Rattle.bayou_socket_run.specs.Damage.{journal_name}
 use Rattle.bayou_serve.specs.declared.plan.PlanFault.TheVariants.{NoServer, NoAddress, OpenToAnyone, NoPeer, SamePeer, TwoBeginnings, OutOfMemory}
@@ -57,15 +59,37 @@ abbrev pub input_name : Input → Option (List ℕ)
 input_name standard = None
 input_name (file name) = Some name
 
--- The server that is to live is the one that is asked for: its journal is the file of its number in the folder, and its plan is made of the words, or
--- refused for one of them.
+-- the name of the file that says of which store a server's journal is
+abbrev pub label_name : (folder : List ℕ) (server : ℕ) → List ℕ
+label_name folder server = folder ++ (codes "/server-" ++ (decimal server ++ codes ".store"))
+
+-- strangers may reach the server, and its store has no key
+abbrev pub IsUnguarded : Service → Type 0
+IsUnguarded service = (service.serves_anyone ≡ true) × (service.key ≡ None)
+
+-- The server that is to live is the one that is asked for: its journal and the file that says of which store that is are those of its number in the
+-- folder, its key is in the file that is named, and its plan is made of the words, or refused for one of them.
 pub record IsServiceOf (asked : Service) (service : Living) : Type 0 where
   pub path : string_bytes service.path ≡ journal_name asked.folder asked.id
+  pub label : string_bytes service.label ≡ label_name asked.folder asked.id
+  pub key : option_map (λ name. string_bytes name) service.key ≡ asked.key
+  pub unguarded : service.is_unguarded ≡ true ↔ IsUnguarded asked
   pub plan : MatchResult service.plan (IsPlanOf asked) (RefusesService asked)
 
 -- A person's session is the one that is asked for: its plan is made of the words, or refused for one of them, and its files are those that are named.
 pub record IsCallOf (asked : Connection) (call : Call) : Type 0 where
+  pub key : option_map (λ name. string_bytes name) call.key ≡ asked.key
   pub plan : MatchResult call.plan (IsPlanOfPlaces asked) (RefusesConnection asked)
   pub state : option_map (λ name. string_bytes name) call.state ≡ asked.state
   pub book : option_map (λ name. string_bytes name) call.book ≡ asked.book
   pub input : option_map (λ name. string_bytes name) call.input ≡ input_name asked.input
+
+-- the name of a store is the one that a word says, if it says one
+abbrev pub SaysName : (word : List ℕ) → (name : Option (List ℕ)) → Type 0
+SaysName word None = key_fault word ≢ None
+SaysName word (Some name) = (key_fault word ≡ None) × (name ≡ word)
+
+-- A key is to be made as the words ask for: for the store of that name, in that file.
+pub record IsKeyOf (name file : List ℕ) (wish : NewKey) : Type 0 where
+  pub path : string_bytes wish.path ≡ file
+  pub said : SaysName name wish.name

@@ -8,6 +8,10 @@ abbrev pub told_text : (file : Option (List ℕ)) → (cause : List ℕ) → Lis
 told_text None cause = codes "bayou: " ++ (cause ++ codes "\n")
 told_text (Some file) cause = codes "bayou: " ++ (file ++ (codes ": " ++ (cause ++ codes "\n")))
 
+-- the line that tells that the key of the store of this name was made in a file
+abbrev pub key_text : (name file : List ℕ) → List ℕ
+key_text name file = codes "key " ++ (name ++ (codes " in " ++ (file ++ codes "\n")))
+
 -- the exit status of lines that ended so: 1 where some operation wasn't served, 2 where a line can't be done
 abbrev pub lines_status : Ended → ℕ
 lines_status Served = 0

@@ -6,9 +6,11 @@ ghost use Rattle.bayou_connect.specs.declared.plan.PlanFault.TheVariants.{OutOfM
 ghost use Rattle.bayou_shell.specs.Plans.{IsPlanOfPlaces, RefusesConnection, input_name};
 ghost use Rattle.bayou_shell.specs.Told.{lines_status, told_text};
 
-use crate::telling::told_line;
+use crate::keyed::{key_fault_line, named_key};
+use crate::telling::{tell_line, told_line};
 use bayou_command::{Connecting, Source};
 use bayou_connect::{ConnectFault, Ended, Input, Names, Plan, PlanFault, connect_plan};
+use bayou_greeting::StoreKey;
 use bayou_net::Sockets;
 use bayou_streams::Output;
 use std::alloc::{AllocError, Global};
@@ -23,6 +25,7 @@ use std::time::Clock;
 #[derive(Drop)]
 pub struct Call {
     plan: Result<Plan, PlanFault>,
+    key: Option<String>,
     state: Option<String>,
     book: Option<String>,
     input: Option<String>,
@@ -73,10 +76,12 @@ impl Call {
     pub fn of(alloc: Global, connecting: &Connecting<'_>) -> Result<Self, AllocError>
         ensures asked { IfOk result (λ call. MatchResult call.plan (IsPlanOfPlaces (connection_seen connecting.now)) (RefusesConnection (connection_seen connecting.now))) }
         ensures known { IfOk result (λ call. IfErr call.plan (λ fault. fault ≢ OutOfMemory)) }
+        ensures key { IfOk result (λ call. option_map (λ name. string_bytes name) call.key ≡ (connection_seen connecting.now).key) }
         ensures state { IfOk result (λ call. option_map (λ name. string_bytes name) call.state ≡ (connection_seen connecting.now).state) }
         ensures book { IfOk result (λ call. option_map (λ name. string_bytes name) call.book ≡ (connection_seen connecting.now).book) }
         ensures input { IfOk result (λ call. option_map (λ name. string_bytes name) call.input ≡ input_name (connection_seen connecting.now).input) }
     {
+        let key = kept_name(alloc, connecting.key)?;
         let state = kept_name(alloc, connecting.state)?;
         let book = kept_name(alloc, connecting.book)?;
         let input = kept_name(alloc, name_of(connecting.input))?;
@@ -91,6 +96,7 @@ impl Call {
         let plan = kept_plan(plan)?;
         Ok(Call {
             plan,
+            key,
             state,
             book,
             input,
@@ -117,14 +123,6 @@ fn fault_line(
     told_line(alloc, file, cause.as_str())
 }
 
-// Tells the line that was made, or that memory ran out, as far as it can be told.
-fn tell_line<E: Write>(errors: &mut E, made: Result<String, AllocError>) {
-    let _ = match made {
-        Ok(line) => errors.write_all(line.as_bytes()),
-        Err(_) => errors.write_all(b"bayou: memory\n"),
-    };
-}
-
 // The exit status of lines that ended so.
 fn status_of(ended: Ended) -> u8
     ensures { result ≡ lines_status ended }
@@ -141,6 +139,7 @@ fn connect_on<I, W, E, T>(
     rt: &T,
     alloc: Global,
     plan: &Plan,
+    key: Option<StoreKey>,
     names: Names<'_>,
     name: &Option<String>,
     input: Input<I>,
@@ -154,7 +153,7 @@ where
     T: Wait + Clock + RandomSource + fs::Files<File = File> + Sockets,
 {
     let Some(name) = name else {
-        return connect_plan(rt, alloc, plan, names, input, output, errors);
+        return connect_plan(rt, alloc, plan, key, names, input, output, errors);
     };
     let Ok(reader) = File::open(rt, name.as_str()) else {
         return Err(ConnectFault::LinesNotOpened);
@@ -164,7 +163,7 @@ where
         reader,
         is_terminal,
     };
-    connect_plan(rt, alloc, plan, names, file, output, errors)
+    connect_plan(rt, alloc, plan, key, names, file, output, errors)
 }
 
 /// Does what was asked for, tells a fault, and gives the exit status.
@@ -188,6 +187,7 @@ where
     let mut errors = errors;
     let Call {
         plan,
+        key: key_path,
         state,
         book,
         input: name,
@@ -199,11 +199,29 @@ where
             return REFUSED;
         }
     };
+    let key = match named_key(rt, alloc, key_path.as_deref()) {
+        Ok(key) => key,
+        Err(fault) => {
+            let line = key_fault_line(alloc, key_path.as_deref(), fault);
+            tell_line(&mut errors, line);
+            return FAILED;
+        }
+    };
     let names = Names {
         state: state.as_deref(),
         book: book.as_deref(),
     };
-    match connect_on(rt, alloc, &plan, names, &name, input, output, &mut errors) {
+    match connect_on(
+        rt,
+        alloc,
+        &plan,
+        key,
+        names,
+        &name,
+        input,
+        output,
+        &mut errors,
+    ) {
         Ok(ended) => status_of(ended),
         Err(fault) => {
             tell_line(

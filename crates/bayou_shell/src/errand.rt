@@ -1,5 +1,6 @@
 //! What the words leave to be done.
 use crate::connected::Call;
+use crate::keyed::NewKey;
 use crate::served::Service;
 use bayou_script::NetworkScript;
 
@@ -17,4 +18,6 @@ pub enum Errand {
     Serve(Service),
     /// To ask servers what lines say.
     Connect(Call),
+    /// To make a key.
+    Key(NewKey),
 }

@@ -16,6 +16,7 @@ use crate::audit::run_audit;
 use crate::connected::Call;
 use crate::errand::Errand;
 use crate::files::Files;
+use crate::keyed::NewKey;
 use crate::net::read_net;
 use crate::run::run_script;
 use crate::served::Service;
@@ -58,7 +59,7 @@ pub fn refuse_words<E: Write>(errors: &mut Output<E>, error: &io::Error) -> u8
     REFUSED
 }
 
-/// Where the input of a task comes from. A server that is to live has none, and lines for servers are read only as they are done: for both it
+/// Where the input of a task comes from. A server that is to live and a key have none, and lines for servers are read only as they are done: for these it
 /// is the standard input, which isn't read.
 fn source_of<'a>(task: &Task<'a>) -> Source<'a>
     ensures { input_seen result ≡ input_of_asked (task_seen task.now) }
@@ -66,7 +67,7 @@ fn source_of<'a>(task: &Task<'a>) -> Source<'a>
     match task {
         Task::Run(source) | Task::Audit(source) => *source,
         Task::Net { script, .. } => *script,
-        Task::Serve(_) | Task::Connect(_) => Source::Standard,
+        Task::Serve(_) | Task::Connect(_) | Task::Key { .. } => Source::Standard,
     }
 }
 
@@ -99,6 +100,7 @@ fn work<R: Read, W: Write>(
         Task::Net { folder, .. } => read_net(alloc, folder, input),
         Task::Serve(serving) => Ok(Errand::Serve(Service::of(alloc, &serving)?)),
         Task::Connect(connecting) => Ok(Errand::Connect(Call::of(alloc, &connecting)?)),
+        Task::Key { name, file } => Ok(Errand::Key(NewKey::of(alloc, name, file)?)),
     }
 }
 

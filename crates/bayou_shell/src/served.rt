@@ -1,18 +1,19 @@
 //! Servers that live, from the words to the exit status.
-ghost use Rattle.std.specs.Prelude.{◌≡◌, ◌≢◌, ◌⊎◌, ℕ, true, Err, IfErr, IfOk, List, MatchResult, None, Some, string_bytes};
+ghost use Rattle.std.specs.Prelude.{◌≡◌, ◌≢◌, ◌⊎◌, ◌↔◌, ℕ, true, Err, IfErr, IfOk, List, MatchResult, None, Some, option_map, string_bytes};
 ghost use Rattle.bayou_command.specs.Serve.{service_seen};
 ghost use Rattle.bayou_serve.specs.Faults.{IsOfJournal};
 ghost use Rattle.bayou_serve.specs.Lived.{PrintsLife};
-ghost use Rattle.bayou_shell.specs.Plans.{IsPlanOf, RefusesService};
+ghost use Rattle.bayou_shell.specs.Plans.{IsPlanOf, IsUnguarded, RefusesService, label_name};
 ghost use Rattle.bayou_shell.specs.Told.{told_text};
 ghost use Rattle.bayou_socket_run.specs.Damage.{journal_name};
 ghost use Rattle.bayou_streams.specs.Account.{account};
 ghost use Rattle.bayou_serve.specs.declared.plan.PlanFault.TheVariants.{OutOfMemory, TwoBeginnings};
 
+use crate::keyed::{key_fault_line, named_key};
 use crate::telling::told_line;
 use bayou_command::Serving;
 use bayou_net::Sockets;
-use bayou_serve::{Beginning, Habits, Plan, PlanFault, ServeFault, Teller, serve_plan};
+use bayou_serve::{Beginning, Habits, Paths, Plan, PlanFault, ServeFault, Teller, serve_plan};
 use bayou_streams::Output;
 use std::alloc::{AllocError, Global};
 use std::fs;
@@ -27,8 +28,17 @@ use std::time::Clock;
 #[derive(Drop)]
 pub struct Service {
     path: String,
+    /// The file that says of which store that journal is.
+    label: String,
+    key: Option<String>,
+    /// Whether strangers may reach it, and nothing keeps them out.
+    is_unguarded: bool,
     plan: Result<Plan, PlanFault>,
 }
+
+/// What is told as a server begins that strangers may reach, and that nothing keeps out.
+const UNGUARDED: &str =
+    "bayou: --anyone without --key: WHOEVER REACHES THIS PORT CAN READ, WRITE AND FILL THE STORE\n";
 
 /// The exit status of words that can't be done.
 const REFUSED: u8 = 2;
@@ -47,38 +57,57 @@ fn kept_plan(plan: Result<Plan, PlanFault>) -> Result<Result<Plan, PlanFault>, A
     }
 }
 
+// Why the words make no plan, or the plan that they make.
+fn plan_in(alloc: Global, serving: &Serving<'_>) -> Result<Result<Plan, PlanFault>, AllocError>
+    ensures asked { IfOk result (λ plan. MatchResult plan (IsPlanOf (service_seen serving.now)) (RefusesService (service_seen serving.now))) }
+    ensures two { serving.now.is_new ≡ true → serving.now.is_restored ≡ true → IfOk result (λ plan. plan ≡ Err TwoBeginnings) }
+{
+    let Some(beginning) = Beginning::of(serving.is_new, serving.is_restored) else {
+        return Ok(Err(PlanFault::TwoBeginnings));
+    };
+    let habits = Habits {
+        limit: serving.limit,
+        every_seconds: serving.every_seconds,
+        connections: serving.connections,
+        idle_seconds: serving.idle_seconds,
+        until_input_ends: serving.until_input_ends,
+        beginning,
+    };
+    let plan = Plan::new(
+        alloc,
+        serving.id,
+        serving.servers,
+        serving.listen,
+        serving.serves_anyone,
+        serving.peers.as_slice(),
+        habits,
+    );
+    let plan = kept_plan(plan)?;
+    Ok(plan)
+}
+
 impl Service {
     /// What the words ask for. What can't be done of them is told once it is to be served; want of memory alone is told at once.
     pub fn of(alloc: Global, serving: &Serving<'_>) -> Result<Self, AllocError>
         ensures path { IfOk result (λ service. string_bytes service.path ≡ journal_name serving.now.folder.now serving.now.id) }
+        ensures label { IfOk result (λ service. string_bytes service.label ≡ label_name serving.now.folder.now serving.now.id) }
+        ensures key { IfOk result (λ service. option_map (λ name. string_bytes name) service.key ≡ (service_seen serving.now).key) }
+        ensures unguarded { IfOk result (λ service. service.is_unguarded ≡ true ↔ IsUnguarded (service_seen serving.now)) }
         ensures asked { IfOk result (λ service. MatchResult service.plan (IsPlanOf (service_seen serving.now)) (RefusesService (service_seen serving.now))) }
         ensures two { serving.now.is_new ≡ true → serving.now.is_restored ≡ true → IfOk result (λ service. service.plan ≡ Err TwoBeginnings) }
     {
         let (folder, id) = (serving.folder, serving.id);
-        let path = format!(in alloc; "{folder}/server-{id}.journal")?;
-        let Some(beginning) = Beginning::of(serving.is_new, serving.is_restored) else {
-            let plan = Err(PlanFault::TwoBeginnings);
-            return Ok(Service { path, plan });
+        let key = match serving.key {
+            None => None,
+            Some(name) => Some(name.to_string(alloc)?),
         };
-        let habits = Habits {
-            limit: serving.limit,
-            every_seconds: serving.every_seconds,
-            connections: serving.connections,
-            idle_seconds: serving.idle_seconds,
-            until_input_ends: serving.until_input_ends,
-            beginning,
-        };
-        let plan = Plan::new(
-            alloc,
-            serving.id,
-            serving.servers,
-            serving.listen,
-            serving.serves_anyone,
-            serving.peers.as_slice(),
-            habits,
-        );
-        let plan = kept_plan(plan)?;
-        Ok(Service { path, plan })
+        Ok(Service {
+            path: format!(in alloc; "{folder}/server-{id}.journal")?,
+            label: format!(in alloc; "{folder}/server-{id}.store")?,
+            key,
+            is_unguarded: serving.serves_anyone && serving.key.is_none(),
+            plan: plan_in(alloc, serving)?,
+        })
     }
 }
 
@@ -124,7 +153,13 @@ where
     ensures lived { result ≡ 0 → IfOk service.plan (λ plan. PrintsLife plan.id.index plan.servers (account W.contents output.old) (account W.contents output.new)) }
 {
     let teller = Teller::new(errors);
-    let Service { path, plan } = service;
+    let Service {
+        path,
+        label,
+        key: key_path,
+        is_unguarded,
+        plan,
+    } = service;
     let plan = match plan {
         Ok(plan) => plan,
         Err(fault) => {
@@ -132,7 +167,22 @@ where
             return REFUSED;
         }
     };
-    match serve_plan(rt, alloc, path.as_str(), &plan, input, output, &teller) {
+    let key = match named_key(rt, alloc, key_path.as_deref()) {
+        Ok(key) => key,
+        Err(fault) => {
+            let line = key_fault_line(alloc, key_path.as_deref(), fault);
+            tell_line(rt, &teller, line);
+            return FAILED;
+        }
+    };
+    if is_unguarded {
+        teller.tell(rt, UNGUARDED);
+    }
+    let paths = Paths {
+        journal: path.as_str(),
+        label: label.as_str(),
+    };
+    match serve_plan(rt, alloc, paths, key, &plan, input, output, &teller) {
         Ok(()) => 0,
         Err(fault) => {
             tell_line(rt, &teller, fault_line(alloc, path.as_str(), fault));

@@ -33,6 +33,14 @@ pub(crate) fn finish<E: Write>(errors: &mut Output<E>, ended: Result<Ended, RunF
     }
 }
 
+/// Tells the line that was made, or that memory ran out, as far as it can be told.
+pub(crate) fn tell_line<E: Write>(errors: &mut E, made: Result<String, AllocError>) {
+    let _ = match made {
+        Ok(line) => errors.write_all(line.as_bytes()),
+        Err(_) => errors.write_all(b"bayou: memory\n"),
+    };
+}
+
 /// The line that tells the cause, with the file that is at fault, where one is.
 pub(crate) fn told_line(
     alloc: Global,

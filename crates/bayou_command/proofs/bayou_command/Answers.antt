@@ -10,5 +10,6 @@ returns c =
     let second = c.in_ok-subcommand-2.ensures.shape c.in_ok-net_command.ensures.local ∙ ap₂ with_subcommand first (ap top c.in_ok-net_command.ensures.app) in
     let third = c.in_ok-subcommand-3.ensures.shape c.in_ok-serve_command.ensures.local ∙ ap₂ with_subcommand second (ap top c.in_ok-serve_command.ensures.app) in
     let fourth = c.in_ok-subcommand-4.ensures.shape c.in_ok-connect_command.ensures.local ∙ ap₂ with_subcommand third (ap top c.in_ok-connect_command.ensures.app) in
-    IfOk-weaker c.subcommand-5.result _ _
-    (λ command h. h.shape c.in_ok-audit_command.ensures.local ∙ ap₂ with_subcommand fourth (ap top c.in_ok-audit_command.ensures.app)) c.subcommand-5.ensures
+    let fifth = c.in_ok-subcommand-5.ensures.shape c.in_ok-key_command.ensures.local ∙ ap₂ with_subcommand fourth (ap top c.in_ok-key_command.ensures.app) in
+    IfOk-weaker c.subcommand-6.result _ _
+    (λ command h. h.shape c.in_ok-audit_command.ensures.local ∙ ap₂ with_subcommand fifth (ap top c.in_ok-audit_command.ensures.app)) c.subcommand-6.ensures

@@ -189,3 +189,15 @@ returns-clause-serve_twice c = refl
 pub returns-clause-serve_word : goal.returns-clause-serve_word
 unfolding clap_on_literals
 returns-clause-serve_word c = refl
+
+pub returns-clause-serve_key : goal.returns-clause-serve_key
+unfolding clap_on_literals
+returns-clause-serve_key c = record { good = refl; entered = refl }
+
+pub returns-clause-serve_key_unnamed : goal.returns-clause-serve_key_unnamed
+unfolding clap_on_literals
+returns-clause-serve_key_unnamed c = refl
+
+pub returns-clause-serve_key_twice : goal.returns-clause-serve_key_twice
+unfolding clap_on_literals
+returns-clause-serve_key_twice c = refl

@@ -133,3 +133,15 @@ returns-clause-two_files c = refl
 pub returns-clause-no_option : goal.returns-clause-no_option
 unfolding clap_on_literals
 returns-clause-no_option c = refl
+
+pub returns-clause-key : goal.returns-clause-key
+unfolding clap_on_literals
+returns-clause-key c = record { good = refl; entered = refl }
+
+pub returns-clause-key_unnamed : goal.returns-clause-key_unnamed
+unfolding clap_on_literals
+returns-clause-key_unnamed c = refl
+
+pub returns-clause-key_twice : goal.returns-clause-key_twice
+unfolding clap_on_literals
+returns-clause-key_twice c = refl

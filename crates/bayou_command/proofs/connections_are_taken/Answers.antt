@@ -51,3 +51,7 @@ returns-clause-state c byte text = record { good = ap (told InvalidValue) (lt-lt
 pub returns-clause-book : goal.returns-clause-book
 unfolding clap_on_literals
 returns-clause-book c byte text = record { good = ap (told InvalidValue) (lt-ltb 0 (length (byte ∷ text)) (omega arith)); entered = refl }
+
+pub returns-clause-key : goal.returns-clause-key
+unfolding clap_on_literals
+returns-clause-key c byte text = record { good = ap (told InvalidValue) (lt-ltb 0 (length (byte ∷ text)) (omega arith)); entered = refl }

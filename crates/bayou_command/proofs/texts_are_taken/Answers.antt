@@ -15,3 +15,7 @@ returns-clause-dir c byte text = record { good = ap (told InvalidValue) (lt-ltb 
 pub returns-clause-peers : goal.returns-clause-peers
 unfolding clap_on_literals
 returns-clause-peers c first second = record { good = refl; entered = refl }
+
+pub returns-clause-key : goal.returns-clause-key
+unfolding clap_on_literals
+returns-clause-key c byte text = record { good = ap (told InvalidValue) (lt-ltb 0 (length (byte ∷ text)) (omega arith)); entered = refl }

@@ -15,7 +15,8 @@ returns-clause-app c =
     let free = ap is_global c.required.ensures ∙ ap is_global c.action.ensures ∙ c.value_option-server.ensures.local in
     let first = c.in_ok-arg.ensures.shape free ∙ ap (with_rule (app_of c.args.command)) server in
     let second = c.in_ok-arg-2.ensures.shape c.number_option-count.ensures.local ∙ ap₂ with_rule first c.number_option-count.ensures.rule in
-    IfOk-weaker c.arg-3.result _ _ (λ made h. h.shape c.value_option.ensures.local ∙ ap₂ with_rule second c.value_option.ensures.rule) c.arg-3.ensures
+    let third = c.in_ok-arg-3.ensures.shape c.value_option.ensures.local ∙ ap₂ with_rule second c.value_option.ensures.rule in
+    IfOk-weaker c.arg-4.result _ _ (λ made h. h.shape c.file_option.ensures.local ∙ ap₂ with_rule third c.file_option.ensures.rule) c.arg-4.ensures
 
 pub returns-clause-local : goal.returns-clause-local
 returns-clause-local c =
@@ -23,4 +24,5 @@ returns-clause-local c =
     let free : c.required.result.global ≡ false = ap is_global c.required.ensures ∙ ap is_global c.action.ensures ∙ c.value_option-server.ensures.local in
     let first = c.in_ok-arg.ensures.globals ∙ stays_local _ _ free in
     let second = c.in_ok-arg-2.ensures.globals ∙ stays_local _ _ c.number_option-count.ensures.local ∙ first in
-    IfOk-weaker c.arg-3.result _ _ (λ made h. h.globals ∙ stays_local _ _ c.value_option.ensures.local ∙ second) c.arg-3.ensures
+    let third = c.in_ok-arg-3.ensures.globals ∙ stays_local _ _ c.value_option.ensures.local ∙ second in
+    IfOk-weaker c.arg-4.result _ _ (λ made h. h.globals ∙ stays_local _ _ c.file_option.ensures.local ∙ third) c.arg-4.ensures

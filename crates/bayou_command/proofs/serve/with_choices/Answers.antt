@@ -14,8 +14,8 @@ returns-clause-app c =
     let second = c.in_ok-arg-2.ensures.shape c.number_option-every.ensures.local ∙ ap₂ with_rule first c.number_option-every.ensures.rule in
     let third = c.in_ok-arg-3.ensures.shape c.number_option-limit.ensures.local ∙ ap₂ with_rule second c.number_option-limit.ensures.rule in
     let fourth = c.in_ok-arg-4.ensures.shape c.number_option-connections.ensures.local ∙ ap₂ with_rule third c.number_option-connections.ensures.rule in
-    IfOk-weaker c.arg-5.result _ _
-    (λ made h. h.shape c.number_option-idle.ensures.local ∙ ap₂ with_rule fourth c.number_option-idle.ensures.rule) c.arg-5.ensures
+    let fifth = c.in_ok-arg-5.ensures.shape c.number_option-idle.ensures.local ∙ ap₂ with_rule fourth c.number_option-idle.ensures.rule in
+    IfOk-weaker c.arg-6.result _ _ (λ made h. h.shape c.file_option.ensures.local ∙ ap₂ with_rule fifth c.file_option.ensures.rule) c.arg-6.ensures
 
 pub returns-clause-local : goal.returns-clause-local
 returns-clause-local c =
@@ -24,4 +24,5 @@ returns-clause-local c =
     let second = c.in_ok-arg-2.ensures.globals ∙ stays_local _ _ c.number_option-every.ensures.local ∙ first in
     let third = c.in_ok-arg-3.ensures.globals ∙ stays_local _ _ c.number_option-limit.ensures.local ∙ second in
     let fourth = c.in_ok-arg-4.ensures.globals ∙ stays_local _ _ c.number_option-connections.ensures.local ∙ third in
-    IfOk-weaker c.arg-5.result _ _ (λ made h. h.globals ∙ stays_local _ _ c.number_option-idle.ensures.local ∙ fourth) c.arg-5.ensures
+    let fifth = c.in_ok-arg-5.ensures.globals ∙ stays_local _ _ c.number_option-idle.ensures.local ∙ fourth in
+    IfOk-weaker c.arg-6.result _ _ (λ made h. h.globals ∙ stays_local _ _ c.file_option.ensures.local ∙ fifth) c.arg-6.ensures

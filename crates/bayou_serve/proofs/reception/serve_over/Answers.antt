@@ -5,8 +5,8 @@ use Rattle.bayou_net.specs.Lent.{desk_steps}
 use Rattle.bayou_net.specs.Serving.{ServeEnds}
 use Rattle.bayou_serve.proofs.reception.serve_over.Goals as goal
 
-pub returns : goal.returns
-returns g c =
+pub returns-clause-served : goal.returns-clause-served
+returns-clause-served g c =
     let (read, consumes, ends) = c.serve_with_leave-answer.ensures.serves in
     let rest = g.R.Read.remaining c.serve_with_leave-answer.new.channel.reader.reader.reader.reader in
     let after = g.W.Write.contents c.serve_with_leave-answer.new.channel.writer.writer in

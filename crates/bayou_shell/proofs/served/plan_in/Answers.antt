@@ -1,7 +1,7 @@
 use Rattle.std.proofs.Common.{ap, map, refl, sym}
 use Rattle.bayou_command.specs.Serve.{service_seen}
 use Rattle.bayou_shell.proofs.Planned.{plan_of}
-use Rattle.bayou_shell.proofs.served.Service.of.Goals as goal
+use Rattle.bayou_shell.proofs.served.plan_in.Goals as goal
 
 pub returns-clause-asked : goal.returns-clause-asked
 returns-clause-asked c =

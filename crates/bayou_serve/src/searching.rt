@@ -1,0 +1,69 @@
+//! How it is found which Write of an origin is the first that a peer has otherwise: by digests at more and more of their counts.
+ghost use Rattle.std.specs.Prelude.{◌≡◌, ◌≤◌, IfSome};
+
+use crate::comparing::Comparison;
+use crate::held_digests::Span;
+use arrayvec::ArrayVec;
+use bayou_base::ServerId;
+use bayou_frames::send;
+use bayou_handshake::read_greeting;
+use bayou_streams::CountedChannel;
+use bayou_wire::layout::DIGESTS_AT_ONCE;
+use bayou_wire::{Greeting, Inquiry, encode_greeting};
+use std::alloc::Global;
+use std::io::{Read, Write};
+use std::sync::Wait;
+
+/// How often a peer is asked for digests at the most behind one greeting. Sixteen counts at once make a seventeenth of what is left, so that four
+/// times are enough for a full store.
+pub(crate) const MAX_INQUIRIES: u32 = 8;
+
+/// Sends a greeting, if it can be sent.
+pub(crate) fn say<R, W: Write>(
+    alloc: Global,
+    greeting: &Greeting,
+    channel: &mut CountedChannel<R, W>,
+) -> Option<()> {
+    let text = encode_greeting(alloc, greeting).ok()?;
+    send(channel, &text).ok()
+}
+
+// The digests of the origin's Writes at these counts, as the other end has them.
+fn ask<R: Read, W: Write>(
+    alloc: Global,
+    origin: ServerId,
+    counts: ArrayVec<u32, DIGESTS_AT_ONCE>,
+    channel: &mut CountedChannel<R, W>,
+) -> Option<ArrayVec<u64, DIGESTS_AT_ONCE>> {
+    let inquiry = Inquiry { origin, counts };
+    say(alloc, &Greeting::Digests(inquiry), channel)?;
+    match read_greeting(channel) {
+        Ok(Some(Greeting::Digested(digests))) => Some(digests),
+        _ => None,
+    }
+}
+
+/// The first Write of the origin that the other end has otherwise, where of the first so many one is another; nothing where it doesn't tell.
+pub(crate) fn search<R: Read, W: Write, T: Wait>(
+    rt: &T,
+    alloc: Global,
+    comparison: &Comparison,
+    origin: ServerId,
+    count: u32,
+    channel: &mut CountedChannel<R, W>,
+) -> Option<u32>
+    ensures { IfSome result (λ first. first ≤ count) }
+{
+    let mut span = Span {
+        low: 0,
+        high: count,
+    };
+    for _ in 0..MAX_INQUIRIES {
+        if span.first().is_some() {
+            break;
+        }
+        let told = ask(alloc, origin, span.counts(), channel)?;
+        span = comparison.narrowed(rt, origin, span, told.as_slice())?;
+    }
+    span.first()
+}
