@@ -19,7 +19,7 @@ import time
 import alone
 import kept_bits
 from checks import Checks
-from greeting import Answering
+from greeting import Answering, LosesReply
 from living import SECONDS, Server, slowness
 from meeting import HELLO, is_greeting, reply_to_greeting
 
@@ -790,8 +790,13 @@ class Tries:
         older = Answering(b"")
         status, printed, told = self.call([(0, "127.0.0.1:%d" % older.port)], ["get a"])
         self.that("one that knows no greetings", (status, printed, told), (1, ["0 lost"], ["bayou: server 0 at 127.0.0.1:%d is older: no greeting" % older.port]))
-        self.that("is greeted, and then asked", [came[0] for came in older.came if came is not None], [HELLO, 0x01])
+        self.that("is greeted twice, and then asked", [came[0] for came in older.came if came is not None], [HELLO, HELLO, 0x01])
         older.end()
+        way = LosesReply(self.start(self.folder()).port)
+        self.row("a greeting whose reply is lost is sent again", [(0, "127.0.0.1:%d" % way.port)], ["put a 1", "get a"], ["0 wrote 0:1 clock 1 deps 0", "0 read a num 1 at 1"])
+        self.that("one reply was lost", way.lost)
+        way.end()
+        self.stop_all()
 
     def keyed(self):
         """A store that has a key: who has it is served, a server that hasn't got it is told and sent nothing, and a state is of one store."""
@@ -813,7 +818,7 @@ class Tries:
             self.row("nothing was sent", where, ["get a"], ["0 read a %s" % ("num 1 at 1" if where is at else "none at 0")], words=words)
         older = Answering(b"")
         self.row("an older server", [(0, "127.0.0.1:%d" % older.port)], ["get a"], ["0 refused away"], 1, ["bayou: server 0 at 127.0.0.1:%d is older: no greeting" % older.port], own)
-        self.that("is greeted, and sent nothing", [came[0] for came in older.came if came is not None], [HELLO])
+        self.that("is greeted twice, and sent nothing", [came[0] for came in older.came if came is not None], [HELLO, HELLO])
         older.end()
         for name, where, words in (("no key", at, []), ("no key, at an open store", at_open, []), ("another key", at, other)):
             with open(state, "rb") as file:

@@ -99,6 +99,72 @@ class Answering:
         self.socket.close()
 
 
+def spoken_again(port):
+    """Sends what `bayou connect` sent to a new server before there were greetings, of which a record was kept: a person's nine lines. It gives how
+    many requests were sent, what each was answered now, and what it was answered then. After an answer that is too short nothing more is sent."""
+    asked, told, answered = 0, [], []
+    with open(os.path.join(os.path.dirname(os.path.abspath(__file__)), "older_connect.txt")) as file:
+        turns = [line.split()[1:] for line in file]
+    with socket.create_connection(("127.0.0.1", port), SECONDS) as link:
+        for kind, text in turns:
+            if kind == "asked":
+                link.sendall(bytes.fromhex(text))
+                asked += 1
+                continue
+            answered.append(bytes.fromhex(text))
+            told.append(received(link, len(answered[-1])))
+            if len(told[-1]) < len(answered[-1]):
+                break
+    return asked, told, answered
+
+
+def received(link, size):
+    """So many bytes that come over the connection, or those that come before its end."""
+    text = b""
+    with contextlib.suppress(OSError):
+        while len(text) < size:
+            more = link.recv(size - len(text))
+            if not more:
+                break
+            text += more
+    return text
+
+
+class LosesReply:
+    """A way to a server on which the reply to the first greeting is lost, and the connection with it."""
+
+    def __init__(self, port):
+        self.to, self.lost = port, False
+        self.socket = socket.create_server(("127.0.0.1", 0))
+        self.port = self.socket.getsockname()[1]
+        threading.Thread(target=self.go_on, daemon=True).start()
+
+    def go_on(self):
+        while True:
+            try:
+                near, _ = self.socket.accept()
+            except OSError:
+                return
+            threading.Thread(target=self.relay, args=(near,), daemon=True).start()
+
+    def relay(self, near):
+        with contextlib.suppress(OSError), near, socket.create_connection(("127.0.0.1", self.to), SECONDS) as far:
+            near.settimeout(SECONDS)
+            while True:
+                request = near.recv(65536)
+                if not request:
+                    return
+                far.sendall(request)
+                answer = far.recv(65536)
+                if not answer or not self.lost:
+                    self.lost = True
+                    return
+                near.sendall(answer)
+
+    def end(self):
+        self.socket.close()
+
+
 class Greeting:
     """Groups of tries of greetings, of a class that has `program`, `folder` and `that`."""
 
@@ -230,6 +296,12 @@ class Greeting:
                 session.write({"update": [["put", "n", number]]})
             self.that("an older client reads what it wrote", (session.read("n"), session.seen[0]), (3, 2))
         self.that("a told end behind an older client", opened.end()[0], 0)
+        opened = Server(self.program, self.folder(), 0, servers=1, new=True)
+        opened.serving()
+        asked, told, answered = spoken_again(opened.port)
+        self.that("an older `connect` is answered as it was then", told, answered)
+        self.that("it asks for something", asked > 10)
+        self.that("a told end behind an older `connect`", opened.end()[0], 0)
         path = self.key()
         keyed = Server(self.program, self.folder(), 0, servers=1, new=True, words=["--key", path])
         keyed.serving()
@@ -240,9 +312,28 @@ class Greeting:
                 except older.BayouError as error:
                     told = type(error)
                 self.that("an older client that %s at a store with a key" % name, told, older.Lost)
+        asked, told, _ = spoken_again(keyed.port)
+        self.that("an older `connect` at a store with a key is told nothing", (asked, told), (1, [b""]))
         with bayou.Session([keyed.address()], key=path) as session:
             self.that("nothing was done of that", (session.read("a"), session.seen[0]), (None, 0))
         self.that("a told end of a store with a key", keyed.end()[0], 0)
+
+    def lost_reply(self):
+        """A peer whose reply to a greeting was lost is no older one: it is greeted again."""
+        folder = self.folder()
+        peer = Server(self.program, folder, 1, servers=2, new=True)
+        peer.serving()
+        way = LosesReply(peer.port)
+        server = Server(self.program, folder, 0, servers=2, peers=[(1, way.port)], new=True)
+        self.that("a server whose greeting's reply is lost", server.serving() is not None)
+        self.that("has lost one", way.lost)
+        with bayou.Session([server.address(), peer.address()]) as session:
+            accepted = session.write({"update": [["put", "a", 1]]}, 1)
+            self.that("pulls from that peer", soon(lambda: session.read("a", 0)), 1)
+        self.that("which isn't told as older", [line for line in server.told.all() if "older" in line or "away" in line], [])
+        self.that("the peer's Write", accepted.seq, 1)
+        self.that("a told end of both", (server.end()[0], peer.end()[0]), (0, 0))
+        way.end()
 
     def older_peers(self):
         """A peer that knows no greetings is pulled from all the same, and that is told once; one that answers otherwise is away."""
@@ -255,6 +346,7 @@ class Greeting:
         self.that("once", len(told), 1)
         self.that("a told end of one with an older peer", server.end()[0], 0)
         fake.end()
+        self.lost_reply()
         hostile = Answering(frames.frame(WELCOME, b"\xff" * 70))
         server = Server(self.program, self.folder(), 0, servers=2, peers=[(1, hostile.port)], new=True)
         self.that("a server beside one that answers wrongly", server.serving() is not None)

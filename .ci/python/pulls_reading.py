@@ -12,8 +12,8 @@ from pulls_made import Calls, in_memory, path_in, puller, source, writes_of
 WRITES = 4096
 READERS = 8
 SLOW = 10000
-# For how many syncs a read may wait: for one, and another may end as its reply comes.
-MOST_SYNCS = 2
+# For how many syncs a read may wait. One of a hundred may be longer on its way, where the machine is busy.
+MOST_SYNCS, FEW = 1, 100
 
 
 class Reader(threading.Thread):
@@ -51,7 +51,7 @@ class Reading:
     """The group of checks. Whoever has it has `program`, `meddle` and `that`."""
 
     def readers(self):
-        """No read waits for more than a sync, however many read."""
+        """No read waits for more than a sync, however many read (but one of a hundred, where the machine is busy)."""
         with in_memory() as folder:
             os.mkdir(os.path.join(folder, "source"))
             server = source(self.program, os.path.join(folder, "source"), list(writes_of(WRITES)))
@@ -65,6 +65,7 @@ class Reading:
                 reader.join(SECONDS)
             server.end()
             waits = sorted(wait for reader in readers for wait in reader.syncs(Calls(calls, path_in(folder), 0)))
-        print("pulls: %d reads beside a pull; the longest waited for %d syncs, each but one of a hundred for at most %d" % (len(waits), waits[-1], waits[len(waits) * 99 // 100]))
-        self.that("reads were served beside the pull: %d" % len(waits), len(waits) > READERS)
-        self.that("no read waits for more than %d syncs (the longest of each for these)" % MOST_SYNCS, waits[-1] <= MOST_SYNCS)
+        most = waits[len(waits) - 1 - len(waits) // FEW]
+        print("pulls: %d reads beside a pull; the longest waited for %d syncs, each but one of a hundred for at most %d" % (len(waits), waits[-1], most))
+        self.that("reads were served beside the pull: %d" % len(waits), len(waits) > FEW)
+        self.that("no read waits for more than %d syncs, but one of a hundred: %d" % (MOST_SYNCS, most), most <= MOST_SYNCS)

@@ -7,7 +7,7 @@ use bayou_base::ServerId;
 use bayou_base::limits::SILENT_SECONDS;
 use bayou_client::Link;
 use bayou_greeting::{StoreKey, Stranger};
-use bayou_handshake::{GreetingFault, greet_server};
+use bayou_handshake::{GreetingFault, OLDER_AFTER, greet_server};
 use bayou_net::Sockets;
 use bayou_streams::CountedChannel;
 use bayou_wire::layout::{GREETING_VERSION, NONCE_BYTES};
@@ -145,6 +145,17 @@ fn end_of<'a, T>(rt: &'a T, stream: &TcpStream, deadline: Deadline) -> Option<Ti
     })
 }
 
+/// What came of a greeting.
+#[derive(Drop)]
+enum Greeted {
+    /// The server is known, over this connection.
+    Over(TcpStream),
+    /// It ended the connection at that, as one does that knows no greetings.
+    Ended,
+    /// It isn't reached, or another answers in its place.
+    Not,
+}
+
 impl Access {
     /// Nothing is open yet.
     pub(crate) fn new(place: Place) -> Self
@@ -185,6 +196,22 @@ impl Access {
         }
     }
 
+    // A connection to the server, if one comes about in what is left of the time.
+    fn reached<T: Sockets + Clock>(&self, rt: &T) -> Option<TcpStream> {
+        stream_to(rt, self.place, self.deadline.left(milliseconds(rt))?)
+    }
+
+    // A connection to the server, and the channel over which it is greeted.
+    fn opened<'a, T: Sockets + Clock>(
+        &self,
+        rt: &'a T,
+    ) -> Option<(TcpStream, CountedChannel<Timed<'a, T>, Timed<'a, T>>)> {
+        let stream = self.reached(rt)?;
+        let reader = end_of(rt, &stream, self.deadline)?;
+        let writer = end_of(rt, &stream, self.deadline)?;
+        Some((stream, CountedChannel::new(reader, writer)))
+    }
+
     // Notes who answered in the server's place.
     fn meet(&mut self, stranger: Stranger)
         ensures { self.new.place ≡ self.old.place }
@@ -194,36 +221,45 @@ impl Access {
         self.stranger = Some(stranger);
     }
 
-    // A connection to the server over which it was greeted. One that knows no greetings is asked all the same, over a connection of its own, where the store
-    // is open: one that has a key proves it, or is sent nothing.
-    fn greeted<T: Sockets + Clock>(
-        &mut self,
-        rt: &T,
-        greeter: &mut Greeter,
-        left: u64,
-    ) -> Option<TcpStream>
+    // Greets the server once, over a connection of its own.
+    fn greeted_once<T: Sockets + Clock>(&mut self, rt: &T, greeter: &mut Greeter) -> Greeted
         ensures { self.new.place ≡ self.old.place }
     {
-        let stream = stream_to(rt, self.place, left)?;
-        let reader = end_of(rt, &stream, self.deadline)?;
-        let writer = end_of(rt, &stream, self.deadline)?;
-        let mut channel = CountedChannel::new(reader, writer);
+        let Some((stream, mut channel)) = self.opened(rt) else {
+            return Greeted::Not;
+        };
         let hello = greeter.hello(self.place.id);
         match greet_server(greeter.alloc, &hello, &greeter.key, None, &mut channel) {
             Ok(known) => {
                 self.known = Some(known);
                 self.stranger = None;
-                Some(stream)
+                Greeted::Over(stream)
             }
-            Err(GreetingFault::Stranger(Stranger::Older)) if greeter.key.is_none() => {
-                self.meet(Stranger::Older);
-                stream_to(rt, self.place, self.deadline.left(milliseconds(rt))?)
-            }
+            Err(GreetingFault::Stranger(Stranger::Older)) => Greeted::Ended,
             Err(GreetingFault::Stranger(stranger)) => {
                 self.meet(stranger);
-                None
+                Greeted::Not
             }
-            Err(_) => None,
+            Err(_) => Greeted::Not,
+        }
+    }
+
+    // A connection to the server over which it was greeted. One that ends the connection at that, and again at the next, is taken for an older one: it
+    // is asked all the same, over a connection of its own, where the store is open; one that has a key proves it, or is sent nothing.
+    fn greeted<T: Sockets + Clock>(&mut self, rt: &T, greeter: &mut Greeter) -> Option<TcpStream>
+        ensures { self.new.place ≡ self.old.place }
+    {
+        for _ in 0..OLDER_AFTER {
+            match self.greeted_once(rt, greeter) {
+                Greeted::Over(stream) => return Some(stream),
+                Greeted::Not => return None,
+                Greeted::Ended => {}
+            }
+        }
+        self.meet(Stranger::Older);
+        match &greeter.key {
+            Some(_) => None,
+            None => self.reached(rt),
         }
     }
 
@@ -267,11 +303,9 @@ impl Access {
     ) -> Option<SocketLink<'a, T>>
         ensures { self.new.place ≡ self.old.place }
     {
-        let now = milliseconds(rt);
-        self.deadline = Deadline::new(now, seconds);
+        self.deadline = Deadline::new(milliseconds(rt), seconds);
         if !self.is_open() {
-            let left = self.deadline.left(now)?;
-            self.stream = self.greeted(rt, greeter, left);
+            self.stream = self.greeted(rt, greeter);
         }
         let Some(stream) = &self.stream else {
             self.fail(milliseconds(rt));

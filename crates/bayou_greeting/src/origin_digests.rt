@@ -54,6 +54,13 @@ impl OriginDigests {
         Ok(())
     }
 
+    /// How many Writes these are of.
+    pub fn len(&self) -> usize
+        ensures { (writes : List (List ℕ)) → AreDigestsOf self.now writes → result ≡ length writes }
+    {
+        self.kept.len()
+    }
+
     /// The digest of the first so many Writes, or `None` where fewer are held.
     pub fn at(&self, count: usize) -> Option<u64>
         ensures held { (writes : List (List ℕ)) → AreDigestsOf self.now writes → count ≤ length writes → result ≡ Some (short (digest_of (take count writes))) }

@@ -16,6 +16,9 @@ use bayou_wire::{Greeting, Held, Hello, Known, Proof, Proving, Welcome};
 use std::alloc::Global;
 use std::io::{Read, Write};
 
+/// How often a server has to end the connection at a greeting before it is taken for an older one, which knows none: a reply may be lost.
+pub const OLDER_AFTER: u32 = 2;
+
 /// Why a server isn't known to who greeted it.
 #[derive(Debug, Drop, PartialEq, Eq)]
 pub enum GreetingFault {

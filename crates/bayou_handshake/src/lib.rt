@@ -14,7 +14,7 @@ pub mod reading;
 mod sending;
 pub mod server_end;
 
-pub use client_end::{GreetingFault, greet_server};
+pub use client_end::{GreetingFault, OLDER_AFTER, greet_server};
 pub use reading::{MAX_GREETING_BYTES, read_greeting};
 pub use server_end::{Guest, NotReceived, StoreServer, make_known, receive};
 

@@ -34,6 +34,8 @@ use std::sync::{Mutex, MutexGuard, Wait};
 #[derive(Drop)]
 pub struct Node<D, L: Desks> {
     held: Mutex<Held<D, L>>,
+    // Whose turn at the lock is next. Who frees the lock and wants it again waits here for who was woken, so that nobody is passed twice.
+    turn: Mutex<()>,
     // How many callers wait for the lock.
     waiting: AtomicUsize,
     id: ServerId,
@@ -69,6 +71,7 @@ impl<D: Device, L: Desks> Node<D, L> {
         Ok((
             Node {
                 held: Mutex::new(held),
+                turn: Mutex::new(()),
                 waiting: AtomicUsize::new(0),
                 id,
             },
@@ -76,10 +79,12 @@ impl<D: Device, L: Desks> Node<D, L> {
         ))
     }
 
-    // The value of the lock, once it is free. Whoever takes Writes meanwhile sees that somebody waits.
+    // The value of the lock, once it is free and this caller's turn is next. Whoever takes Writes meanwhile sees that somebody waits.
     fn enter<R: Wait>(&self, rt: &R) -> MutexGuard<'_, Held<D, L>> {
         self.waiting.fetch_add(1, Ordering::Relaxed);
+        let turn = self.turn.lock(rt);
         let held = self.held.lock(rt);
+        drop(turn);
         self.waiting.fetch_sub(1, Ordering::Relaxed);
         held
     }
@@ -221,6 +226,7 @@ impl<D: Device, L: Desks> Node<D, L> {
                 Err(DeskMissing {
                     node: Node {
                         held: Mutex::new(node),
+                        turn: Mutex::new(()),
                         waiting: AtomicUsize::new(0),
                         id,
                     },

@@ -1,11 +1,13 @@
 -- What digests say of the Writes that were read, where one more is.
-use Rattle.std.proofs.Common.{rules, tests, ◌==◌, ◌≡◌, ◌≢◌, ◌≤◌, ◌+◌, ◌++◌, All, IfSome, map, take, ◌⊎◌, inl, inr, Err, Ok, Result, OnErr, ◌<◌, ◌∙◌, arith, ℕ, zero, suc, List, [], ◌∷◌, None, Option, Some, ap, get_or, length, refl, sym, slice_set, subst}
+use Rattle.std.proofs.Common.{rules, tests, Bool, true, false, not, IsSome, unwrap_or, ◌==◌, ◌≡◌, ◌≢◌, ◌≤◌, ◌+◌, ◌++◌, All, IfSome, map, take, ◌⊎◌, inl, inr, Err, Ok, Result, OnErr, ◌<◌, ◌∙◌, arith, ℕ, zero, suc, List, [], ◌∷◌, None, Option, Some, ap, get_or, length, refl, sym, slice_set, subst}
 use Rattle.std.proofs.Math.Seq.{take-suc}
-use Rattle.std.proofs.lemmas.Bool.{cases_eq, cases_lt}
+use Rattle.std.proofs.Math.Dec.{eqb}
+use Rattle.std.proofs.lemmas.Bool.{cases_eq, cases_lt, eq-eqb, eqb-true}
 use Rattle.std.proofs.lemmas.List.{append_assoc, append-nil, map-append}
 use Rattle.std.proofs.lemmas.List.Elements.{All-append, filter-append}
 use Rattle.std.proofs.lemmas.Option.{get_or_from_slice_get, slice_get-get_or, slice_get_cases, slice_get_past, slice_get_within}
 use Rattle.std.specs.List.{slice_get}
+use Rattle.std.specs.Option.{option_eq}
 use Rattle.bayou_base.specs.declared.limits.TheConstants.{SERVERS}
 use Rattle.bayou_base.specs.declared.server.ServerId.{ServerId}
 use Rattle.bayou_greeting.specs.OriginDigests.{AreDigestsOf}
@@ -171,3 +173,36 @@ read_more old new origin before writes write has own others =
       | inr differ ↦
           subst (λ (all : List Write). HasRead new origin (before ++ map write_bytes all)) (sym (own_same origin.index writes write (λ same. differ (sym same)))) (others origin read differ has)
     ]
+
+-- one more digest is told that is the same
+pub one_same : (writes : List (List ℕ)) (counts told : List ℕ) (at : ℕ) → at < length counts → at < length told → TellsAt writes (get_or counts at 0) (Some (get_or told at 0))
+    → All (λ count. count ≤ length writes) (take at counts) → take at told ≡ map (digest_at writes) (take at counts)
+    → All (λ count. count ≤ length writes) (take (at + 1) counts) × (take (at + 1) told ≡ map (digest_at writes) (take (at + 1) counts))
+one_same writes counts told at within told_within tells all is =
+    let (more, same) = one_more writes counts at (get_or told at 0) (take at told) within tells all is in
+    let suc_at : at + 1 ≡ suc at = omega arith in
+    (more, ap (λ n. take n told) suc_at ∙ take-suc told at 0 told_within ∙ same)
+
+-- where so many are held, one that isn't told as it is differs
+pub told_other : (writes : List (List ℕ)) (count digest : ℕ) (found : Option ℕ) → TellsAt writes count found → found ≢ Some digest → count ≤ length writes → digest ≢ digest_at writes count
+told_other writes count digest found tells other enough same = other (tells.held enough ∙ ap (λ d. Some d) (sym same))
+
+not_false : (told : Bool) → false ≡ not told → told ≡ true
+not_false true is = refl
+not_false false is = absurd cc
+
+-- where `!=` denies it, what is found is that digest
+pub found_same : (found : Option ℕ) (digest : ℕ) → false ≡ not (option_eq eqb found (Some digest)) → found ≡ Some digest
+found_same None digest is = absurd cc
+found_same (Some own) digest is = ap (λ d. Some d) (eqb-true own digest (not_false (eqb own digest) is))
+
+-- and where it says so, it isn't
+pub found_other : (found : Option ℕ) (digest : ℕ) → true ≡ not (option_eq eqb found (Some digest)) → found ≢ Some digest
+found_other found digest other same =
+    let is : true ≡ not true = other ∙ ap (λ (it : Option ℕ). not (option_eq eqb it (Some digest))) same ∙ ap not (eq-eqb digest digest refl) in
+    absurd cc
+
+-- what is there is taken, and no default
+pub unwrap_told : (found : Option (List ℕ)) (none counts : List ℕ) → IsSome found → IfSome found (λ vector. vector ≡ counts) → unwrap_or found none ≡ counts
+unwrap_told None none counts some value = absurd cc
+unwrap_told (Some vector) none counts some value = value

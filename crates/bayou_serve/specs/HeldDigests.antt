@@ -1,9 +1,10 @@
 -- What digests of a server say of its Writes: this project's own. A Write is here its bytes as it travels, without a tag.
-use Rattle.std.specs.Prelude.{◌≡◌, ◌≢◌, ◌≤◌, ◌<◌, ◌++◌, ◌∷◌, [], ℕ, All, IfSome, List, None, Option, Some, length, map, slice_get, slice_index, take}
+use Rattle.std.specs.Prelude.{◌≡◌, ◌≢◌, ◌≤◌, ◌<◌, ◌++◌, ◌∷◌, [], ℕ, All, IfSome, List, None, Option, Some, get_or, length, map, slice_get, slice_index, take}
 use Rattle.bayou_base.specs.declared.server.ServerId.{ServerId}
 use Rattle.bayou_greeting.specs.OriginDigests.{AreDigestsOf, digest_of, short}
 use Rattle.bayou_greeting.specs.declared.origin_digests.OriginDigests.{OriginDigests}
 use Rattle.bayou_serve.specs.declared.held_digests.HeldDigests.{HeldDigests}
+use Rattle.bayou_serve.specs.declared.held_digests.Span.{Span}
 use Rattle.bayou_wire.specs.declared.greeting.Held.{Held}
 
 -- these Writes of that origin were read, in this order
@@ -32,3 +33,13 @@ pub record TellsUpTo (writes : List (List ℕ)) (counts digests : List ℕ) : Ty
   pub held : All (λ count. count ≤ length writes) (take number counts)
   pub told : digests ≡ map (digest_at writes) (take number counts)
   pub stopped : IfSome (slice_get counts number) (λ count. length writes < count)
+
+-- A span is narrowed by what was told at these counts. The first so many are told as they are of these Writes; the next one, where so many Writes are held, isn't.
+pub record Narrows (writes : List (List ℕ)) (counts told : List ℕ) (span narrow : Span) : Type 0 where
+  pub same : ℕ
+  pub within : same ≤ length counts
+  pub held : All (λ count. count ≤ length writes) (take same counts)
+  pub as_told : take same told ≡ map (digest_at writes) (take same counts)
+  pub differs : same < length counts → slice_index counts same ≤ length writes → slice_index told same ≢ digest_at writes (slice_index counts same)
+  pub low : narrow.low ≡ slice_index (span.low ∷ counts) same
+  pub high : narrow.high ≡ get_or counts same span.high

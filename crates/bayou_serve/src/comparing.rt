@@ -1,5 +1,5 @@
 //! What a server keeps to see whether its peers hold the same Writes under the same names, and what it tells of that.
-ghost use Rattle.std.specs.Prelude.{◌≡◌, ◌≤◌, ◌*◌, IfOk, IfSome, vec_len};
+ghost use Rattle.std.specs.Prelude.{◌≡◌, ◌≤◌, ◌<◌, ◌*◌, ◌↔◌, All, IfOk, IfSome, IsSome, length, vec_len};
 ghost use Rattle.bayou_base.specs.declared.limits.TheConstants.{SERVERS};
 
 use crate::held_digests::{HeldDigests, Span};
@@ -177,11 +177,13 @@ impl Comparison {
         rt: &T,
         origin: ServerId,
         span: Span,
+        counts: &[u32],
         told: &[u64],
     ) -> Option<Span>
-        ensures { IfSome result (λ narrow. (span.low ≤ narrow.low) × (narrow.high ≤ span.high)) }
+        ensures told { IsSome result ↔ (length told.now ≡ length counts.now) }
+        ensures within { All (λ count. (span.low < count) × (count < span.high)) counts.now → IfSome result (λ narrow. (span.low ≤ narrow.low) × (narrow.high ≤ span.high)) }
     {
-        self.digests.lock(rt).narrowed(origin, span, told)
+        self.digests.lock(rt).narrowed(origin, span, counts, told)
     }
 
     /// Tells that the peer has other Writes of the origin, where that is due.

@@ -11,7 +11,7 @@ use crate::waiting::{Most, Since, Waiting};
 use bayou_base::ServerId;
 use bayou_base::limits::GREETING_MILLISECONDS;
 use bayou_greeting::{StoreKey, Stranger};
-use bayou_handshake::{GreetingFault, Guest, StoreServer, greet_server, receive};
+use bayou_handshake::{GreetingFault, Guest, OLDER_AFTER, StoreServer, greet_server, receive};
 use bayou_net::Sockets;
 use bayou_streams::{CountedChannel, Patient};
 use bayou_wire::layout::{GREETING_VERSION, NONCE_BYTES};
@@ -164,8 +164,33 @@ fn greet_at<T: Clock + RandomSource>(
     greet_over(alloc, own, &hello, held, hall, rt, &since, stream, stream)
 }
 
-/// A way to the peer, which is greeted first, and told this of what is held. At an open store an older one is asked all the same, over a connection of
-/// its own; at one that has a key there is no way but to a peer that has it too.
+// A way to the peer, which is greeted, and told this of what is held; nothing where it ended the connection at that.
+fn greeted_way_to<T: Clock + RandomSource + Sockets>(
+    rt: &T,
+    alloc: Global,
+    own: &StoreServer,
+    peer: Peer,
+    hall: &Hall,
+    held: &Option<Held>,
+) -> Option<Way> {
+    let Some(stream) = reach(rt, peer) else {
+        return Some(Way::Away);
+    };
+    match greet_at(rt, alloc, own, peer, hall, *held, &stream) {
+        Ok(known) => Some(Way::Open {
+            stream,
+            is_older: false,
+            known: Some(known),
+        }),
+        Err(GreetingFault::Differs(origin)) => Some(Way::Differs { stream, origin }),
+        Err(GreetingFault::Stranger(Stranger::Older)) => None,
+        Err(GreetingFault::Stranger(stranger)) => Some(Way::Stranger(stranger)),
+        Err(_) => Some(Way::Away),
+    }
+}
+
+/// A way to the peer, which is greeted first, and told this of what is held. One that ends the connection at that, and again at the next, is taken for an
+/// older one: at an open store it is asked all the same, over a connection of its own; at one that has a key there is no way but to a peer that has it too.
 pub(crate) fn way_to<T: Clock + RandomSource + Sockets>(
     rt: &T,
     alloc: Global,
@@ -174,21 +199,14 @@ pub(crate) fn way_to<T: Clock + RandomSource + Sockets>(
     hall: &Hall,
     held: Option<Held>,
 ) -> Way {
-    let Some(stream) = reach(rt, peer) else {
-        return Way::Away;
-    };
-    match greet_at(rt, alloc, own, peer, hall, held, &stream) {
-        Ok(known) => Way::Open {
-            stream,
-            is_older: false,
-            known: Some(known),
-        },
-        Err(GreetingFault::Differs(origin)) => Way::Differs { stream, origin },
-        Err(GreetingFault::Stranger(Stranger::Older)) if own.key.is_none() => {
-            older_way_to(rt, peer)
+    for _ in 0..OLDER_AFTER {
+        if let Some(way) = greeted_way_to(rt, alloc, own, peer, hall, &held) {
+            return way;
         }
-        Err(GreetingFault::Stranger(stranger)) => Way::Stranger(stranger),
-        Err(_) => Way::Away,
+    }
+    match &own.key {
+        Some(_) => Way::Stranger(Stranger::Older),
+        None => older_way_to(rt, peer),
     }
 }
 

@@ -1,15 +1,15 @@
 //! Digests of what a server holds, as two servers compare them.
-ghost use Rattle.std.specs.Prelude.{◌≡◌, ◌≤◌, ◌<◌, ◌+◌, ◌++◌, ◌∷◌, ◌↔◌, [], ℕ, All, IfSome, IsTrue, List, None, OnErr, OnOk, Some, length, map, slice_index};
+ghost use Rattle.std.specs.Prelude.{◌≡◌, ◌≤◌, ◌<◌, ◌+◌, ◌^◌, ◌++◌, ◌∷◌, ◌↔◌, [], ℕ, All, IfSome, IsSome, IsTrue, List, None, OnErr, OnOk, Some, length, map, min, slice_index};
 ghost use Rattle.bayou_base.specs.declared.limits.TheConstants.{MAX_WRITES};
 ghost use Rattle.bayou_base.specs.declared.server.ServerId.{ServerId as Server};
 ghost use Rattle.bayou_greeting.specs.OriginDigests.{AreDigestsOf};
-ghost use Rattle.bayou_serve.specs.HeldDigests.{DifferFrom, HasRead, TellsAt, TellsUpTo, digest_at};
+ghost use Rattle.bayou_serve.specs.HeldDigests.{DifferFrom, HasRead, Narrows, TellsAt, TellsUpTo, digest_at};
 ghost use Rattle.bayou_restore.specs.Restoring.{own_of};
 ghost use Rattle.bayou_wire.specs.Spelling.{write_bytes};
 ghost use Rattle.bayou_wire.specs.declared.layout.TheConstants.{DIGESTS_AT_ONCE};
 
 use arrayvec::ArrayVec;
-use bayou_base::{SERVERS, ServerId, Vector};
+use bayou_base::{MAX_WRITES, SERVERS, ServerId, Vector};
 use bayou_greeting::OriginDigests;
 use bayou_greeting::origin_digests::NO_WRITES;
 use bayou_lang::RestingWrite;
@@ -58,7 +58,6 @@ impl Span {
 #[derive(Drop)]
 pub struct HeldDigests {
     origins: [OriginDigests; SERVERS],
-    vector: Vector,
     read: usize,
 }
 
@@ -74,7 +73,6 @@ impl HeldDigests {
                     ensures { AreDigestsOf result [] }
                 { OriginDigests::new(alloc) },
             ),
-            vector: Vector::zero(),
             read: 0,
         }
     }
@@ -90,12 +88,12 @@ impl HeldDigests {
     fn add(&mut self, alloc: Global, write: &RestingWrite) -> Result<(), AllocError>
         ensures own { (writes : List (List ℕ)) → HasRead self.old write.now.wid.origin writes → OnOk result (HasRead self.new write.now.wid.origin (writes ++ write_bytes write.now ∷ [])) }
         ensures others { (origin : Server) (writes : List (List ℕ)) → ¬ (origin.index ≡ write.now.wid.origin.index) → HasRead self.old origin writes → HasRead self.new origin writes }
-        ensures refused { (origin : Server) (writes : List (List ℕ)) → HasRead self.old origin writes → OnErr result ((self.new.vector ≡ self.old.vector) × (self.new.read ≡ self.old.read) × HasRead self.new origin writes) }
+        ensures counted { self.old.read + 1 < 2 ^ 64 → OnOk result (self.new.read ≡ self.old.read + 1) }
+        ensures refused { (origin : Server) (writes : List (List ℕ)) → HasRead self.old origin writes → OnErr result ((self.new.read ≡ self.old.read) × HasRead self.new origin writes) }
     {
         let wid = write.wid();
         let bytes = encode_resting_write(alloc, write)?;
         self.origins[usize::from(wid.origin.index)].extend(&bytes)?;
-        self.vector.raise(wid);
         self.read = self.read.saturating_add(1);
         Ok(())
     }
@@ -109,6 +107,7 @@ impl HeldDigests {
     ) -> Result<(), AllocError>
         ensures own { (origin : Server) (before : List (List ℕ)) → HasRead self.old origin before → read ≡ self.old.read
             → OnOk result (HasRead self.new origin (before ++ map write_bytes (own_of origin.index writes.now))) }
+        ensures counted { read ≡ self.old.read → read + length writes.now < 2 ^ 64 → OnOk result (self.new.read ≡ read + length writes.now) }
         ensures others { ¬ (read ≡ self.old.read) → self.new ≡ self.old }
     {
         if read != self.read {
@@ -127,19 +126,21 @@ impl HeldDigests {
         self.origins[usize::from(origin.index)].at(count as usize)
     }
 
-    /// How many Writes were read of each origin, and of each the digest of all of them.
+    /// How many Writes were read of each origin, as many as a log can hold at the most, and of each the digest of so many.
     pub fn held(&self) -> Held
-        ensures vector { result.vector ≡ self.now.vector }
-        ensures digests { (origin : Server) (writes : List (List ℕ)) → HasRead self.now origin writes → slice_index self.now.vector origin.index ≡ length writes
-            → slice_index result.digests origin.index ≡ digest_at writes (length writes) }
+        ensures counts { (origin : Server) (writes : List (List ℕ)) → HasRead self.now origin writes → slice_index result.vector origin.index ≡ min (length writes) MAX_WRITES }
+        ensures digests { (origin : Server) (writes : List (List ℕ)) → HasRead self.now origin writes
+            → slice_index result.digests origin.index ≡ digest_at writes (slice_index result.vector origin.index) }
     {
+        let mut counts = [0; SERVERS];
         let mut each = [NO_WRITES; SERVERS];
         for index in 0..SERVERS {
-            let count = self.vector.counts()[index];
-            each[index] = self.origins[index].at(count as usize).unwrap_or(NO_WRITES);
+            let count = self.origins[index].len().min(MAX_WRITES as usize);
+            counts[index] = count as u32;
+            each[index] = self.origins[index].at(count).unwrap_or(NO_WRITES);
         }
         Held {
-            vector: self.vector,
+            vector: Vector::from_counts(counts).unwrap_or(Vector::zero()),
             digests: Digests::new(each),
         }
     }
@@ -186,11 +187,18 @@ impl HeldDigests {
         digests
     }
 
-    /// Where the first Write of the origin that differs is, by what was told of the span's counts; nothing where not all of them were told.
-    pub fn narrowed(&self, origin: ServerId, span: Span, told: &[u64]) -> Option<Span>
-        ensures within { IfSome result (λ narrow. (span.low ≤ narrow.low) × (narrow.high ≤ span.high)) }
+    /// Where the first Write of the origin that differs is, by what was told of these counts of the span; nothing where not all of them were told.
+    pub fn narrowed(
+        &self,
+        origin: ServerId,
+        span: Span,
+        counts: &[u32],
+        told: &[u64],
+    ) -> Option<Span>
+        ensures told { IsSome result ↔ (length told.now ≡ length counts.now) }
+        ensures within { All (λ count. (span.low < count) × (count < span.high)) counts.now → IfSome result (λ narrow. (span.low ≤ narrow.low) × (narrow.high ≤ span.high)) }
+        ensures narrows { (writes : List (List ℕ)) → HasRead self.now origin writes → IfSome result (λ narrow. Narrows writes counts.now told.now span narrow) }
     {
-        let counts = span.counts();
         if told.len() != counts.len() {
             return None;
         }

@@ -63,7 +63,8 @@ pub(crate) fn search<R: Read, W: Write, T: Wait>(
             break;
         }
         let told = ask(alloc, origin, span.counts(), channel)?;
-        span = comparison.narrowed(rt, origin, span, told.as_slice())?;
+        let counts = span.counts();
+        span = comparison.narrowed(rt, origin, span, counts.as_slice(), told.as_slice())?;
     }
     span.first()
 }

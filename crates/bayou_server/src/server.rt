@@ -211,8 +211,9 @@ impl<D: Device> Server<D> {
 
     /// Takes the Writes, as [`Server::take`] does, one after another, up to one that is refused: but those that come one behind the other are stored as
     /// one piece of the journal, no longer than its longest entry, and synced together. Where `waiting` counts somebody, no more than one piece is taken,
-    /// so that whoever waits for the server waits for one sync. When somebody waits no clause can tell. Where a device call fails, all Writes of
-    /// the piece are in doubt, of which the first is the one refused.
+    /// so that whoever waits for the server waits for one sync; but of Writes that come late, as many as about a thirty-second of those that are applied
+    /// anew behind them. When somebody waits no clause can tell. Where a device call fails, all Writes of the piece are in doubt, of which the first is
+    /// the one refused.
     pub fn take_meanwhile(
         &mut self,
         alloc: Global,

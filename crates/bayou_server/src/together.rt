@@ -28,6 +28,9 @@ use std::alloc::{AllocError, Global};
 use std::collections::VecDeque;
 use std::sync::atomic::{AtomicUsize, Ordering};
 
+/// Of so many Writes that are applied anew for a late one, one at the least is taken before whoever waits is heeded.
+const REAPPLIED: u32 = 32;
+
 // Takes room for the Write to be held with no tag, and for so many to be in doubt.
 fn make_room(holding: &mut Holding, write: &RestingWrite, many: usize) -> Result<(), AllocError>
     requires { holding.old.tags.coming ≡ None }
@@ -245,7 +248,16 @@ fn take_piece<D: Device>(
     }
 }
 
-// Takes the Writes, one piece after another, up to one that is refused; where somebody waits, one piece alone.
+// How many new Writes are taken before whoever waits is heeded. What comes after a late Write in stamp order is applied anew (Terry et al. 1995), before
+// anybody is served: so of late ones more are taken together. How late one is, its clock tells well enough.
+fn least_of(holding: &Holding, writes: &VecDeque<RestingWrite>) -> u32 {
+    match writes.front() {
+        Some(first) => holding.log.clock().saturating_sub(first.stamp().clock) / REAPPLIED,
+        None => 0,
+    }
+}
+
+// Takes the Writes, one piece after another, up to one that is refused; where somebody waits, one piece alone, or as many as late ones are worth it.
 pub fn take_meanwhile<D: Device>(
     alloc: Global,
     journal: &mut Journal<D>,
@@ -261,8 +273,12 @@ pub fn take_meanwhile<D: Device>(
     ensures stores { StoresAll D.Device (server_of journal.old holding.old id.index) result.refused (server_of journal.new holding.new id.index) }
     ensures some { result.refused ≡ None → (writes.new.items ≡ []) ⊎ (0 < result.taken + result.had) }
 {
+    let least = least_of(holding, writes);
     let mut told = take_piece(alloc, journal, holding, id, writes);
-    while told.refused.is_none() && !writes.is_empty() && waiting.load(Ordering::Relaxed) == 0 {
+    while told.refused.is_none()
+        && !writes.is_empty()
+        && (told.taken < least || waiting.load(Ordering::Relaxed) == 0)
+    {
         let more = take_piece(alloc, journal, holding, id, writes);
         told.taken += more.taken;
         told.had += more.had;

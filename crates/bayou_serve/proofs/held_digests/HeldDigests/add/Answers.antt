@@ -11,8 +11,7 @@ returns-in_err-extend-clause-others c origin writes differ has =
 
 pub returns-in_err-extend-clause-refused : goal.returns-in_err-extend-clause-refused
 returns-in_err-extend-clause-refused c origin writes has =
-    on_err {P = (c.args.self.now.vector ≡ c.args.self.now.vector) × (c.args.self.now.read ≡ c.args.self.now.read) × HasRead _ origin writes} c.from_residual-in_err-extend.result (
-      refl,
+    on_err {P = (c.args.self.now.read ≡ c.args.self.now.read) × HasRead _ origin writes} c.from_residual-in_err-extend.result (
       refl,
       read_still c.args.self.now _ origin c.from.result c.extend.new.self writes refl
           (λ same. c.in_err-extend.ensures.refused writes (read_at c.args.self.now origin c.from.result _ writes same has)) has,
