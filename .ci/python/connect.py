@@ -5,7 +5,6 @@ import json
 import os
 import pty
 import random
-import resource
 import shutil
 import signal
 import socket
@@ -17,11 +16,13 @@ import threading
 import time
 
 import alone
+import frames
 import kept_bits
 from checks import Checks
 from greeting import Answering, LosesReply
+from listing import Paging, full, page, with_outcomes
 from living import SECONDS, Server, slowness
-from meeting import HELLO, is_greeting, reply_to_greeting
+from meeting import HELLO, free_port, is_greeting, reply_to_greeting
 
 sys.path.insert(0, os.path.join("..", "clients", "python"))
 import bayou  # noqa: E402
@@ -33,11 +34,14 @@ COUNT = "wrong number of words; a text with spaces stands in double quotes"
 KEY = "bad key; a key has 1 to 32 bytes of a-z 0-9 . _ - /"
 NUMBER = "bad number; it is an integer of 64 bits, with no zeros in front, plus sign or point"
 LIKE_NUMBER = "bad value; a number is an integer of 64 bits, with no zeros in front, plus sign or point; as a text it stands in double quotes"
+NAME = "bad name; a Write's name is the number of its server, a colon and its own number, as 0:12"
 QUOTED = "bad value; from a double quote on the line is one text, as JSON spells it"
 LONG = "bad value; a text has at most 32 bytes"
 # What a server has for its connection and its whole reply where nothing is said, and what a busy machine may add.
 TIMEOUT, BUSY = 3, 4
 ENTRY_BYTES = 179
+# How often a session lists while servers pull.
+LISTS = 10_000
 MOST_ENTRIES = 65536
 
 
@@ -73,18 +77,21 @@ class DropReply(Listening):
                 near, _ = self.listener.accept()
             except OSError:
                 return
-            with near, socket.create_connection(("127.0.0.1", self.port)) as far:
-                while True:
-                    request = near.recv(65536)
-                    if not request:
-                        break
-                    far.sendall(request)
-                    reply = far.recv(65536)
-                    is_counted = not is_greeting(request)
-                    self.dropped -= is_counted
-                    if is_counted and self.dropped == 0 or not reply:
-                        break
-                    near.sendall(reply)
+            threading.Thread(target=self.relay, args=(near,), daemon=True).start()
+
+    def relay(self, near):
+        with near, socket.create_connection(("127.0.0.1", self.port)) as far:
+            while True:
+                request = near.recv(65536)
+                if not request:
+                    break
+                far.sendall(request)
+                reply = far.recv(65536)
+                is_counted = not is_greeting(request)
+                self.dropped -= is_counted
+                if is_counted and self.dropped == 0 or not reply:
+                    break
+                near.sendall(reply)
 
 
 class Dripping(Listening):
@@ -149,16 +156,9 @@ def item_of(write):
     return (len(write) + 1).to_bytes(2, "big") + b"\x15" + write
 
 
-def apart_items(count):
-    """The Items of so many Writes of server 0, and as many of server 1, which knew nothing of them: each comes late."""
-    items = []
-    for origin in range(2):
-        for seq in range(1, count + 1):
-            deps = [0] * 16
-            deps[origin] = seq - 1
-            program = bayou.program_bytes({"update": [["put", "k%d" % (seq % 5000), seq]]})
-            items.append(item_of(struct.pack(">BII16I", origin, seq, seq, *deps) + program))
-    return items
+def kinds_of(printed):
+    """What kinds of lines these are, but for those of what became of Writes."""
+    return [alone.kind(line) for line in printed if " became " not in line]
 
 
 class Tries:
@@ -195,7 +195,7 @@ class Tries:
         return done.returncode, done.stdout.decode().splitlines(), done.stderr.decode().splitlines()
 
     def row(self, name, servers, lines, printed, status=0, told=(), words=()):
-        self.that(name, self.call(servers, lines, words), (status, list(printed), list(told)))
+        self.that(name, self.call(servers, lines, words), (status, with_outcomes(lines, printed), list(told)))
 
     # Groups.
 
@@ -232,17 +232,17 @@ class Tries:
         self.row("a put is read", at, ["put room kim", "get room", "get none"],
                  ["0 wrote 0:1 clock 1 deps 0", '0 read room text "kim" at 1', "0 read none none at 1"])
         self.row("a number", at, ["put n 7", "add n -9", "get n", "add m 5", "get m", "add room 1", "get room"],
-                 ["0 wrote 0:2 clock 2 deps 1", "0 wrote 0:3 clock 3 deps 2", "0 read n num -2 at 3", "0 wrote 0:4 clock 4 deps 3", "0 read m num 5 at 4",
-                  "0 wrote 0:5 clock 5 deps 4", "0 did nothing", '0 read room text "kim" at 5'], 1)
+                 ["0 wrote 0:2 clock 2 deps 1", "0 wrote 0:3 clock 3 deps 2", "0 became 0:3 merge 1", "0 read n num -2 at 3", "0 wrote 0:4 clock 4 deps 3",
+                  "0 read m num 5 at 4", "0 wrote 0:5 clock 5 deps 4", "0 became 0:5 none", '0 read room text "kim" at 5'], 1)
         self.row("a key is removed", at, ["del n", "get n", "", "   "], ["0 wrote 0:6 clock 6 deps 5", "0 read n none at 6"])
         self.row("a claim that is had", at, ["claim a b lee"], ["0 wrote 0:7 clock 7 deps 6", '0 read a text "lee" at 7'])
         self.row("a claim that falls back", at, ["claim a b kim"],
-                 ["0 wrote 0:8 clock 8 deps 7", '0 read a text "lee" at 8', '0 read b text "kim" at 8'])
+                 ["0 wrote 0:8 clock 8 deps 7", "0 became 0:8 merge 1", '0 read a text "lee" at 8', '0 read b text "kim" at 8'])
         self.row("a claim of what is taken", at, ["claim a b jo"],
-                 ["0 wrote 0:9 clock 9 deps 8", '0 read a text "lee" at 9', '0 read b text "kim" at 9', "0 did nothing"], 1)
+                 ["0 wrote 0:9 clock 9 deps 8", "0 became 0:9 none", '0 read a text "lee" at 9', '0 read b text "kim" at 9'], 1)
         self.row("a list", at, ["list", "servers", "session", "at 0"],
-                 ['a text "lee"', 'b text "kim"', "m num 5", 'room text "kim"', "list 0 keys 4", "server 0 at 9 holds 9 of 65536",
-                  "session 0 asks none", "session 0 read 0 wrote 0"])
+                 ['a text "lee"', 'b text "kim"', "m num 5", 'room text "kim"', "list keys 4 at 9", "server 0 at 9 holds 9 of 65536",
+                  "session 0 asks none", "session 0 read 9 wrote 0"])
         self.row("a script's lines", at, ['["session",3,["ryw"]]', '["write",3,0,{"update":[["put","x","a b"]]}]', '["read",3,0,"x"]', '["reopen",0]',
                                           '["again",3]', "again"],
                  ["3 wrote 0:10 clock 10 deps 9", '3 read x text "a b" at 10', "reopen refused notdown", "3 again none", "0 again none"], 1)
@@ -304,7 +304,7 @@ class Tries:
         self.row("of the second key too", at, ["claim b c lee", "claim c b a lee", "claim c b a kim", "get c"],
                  ["0 wrote 0:2 clock 2 deps 1", '0 read b text "lee" at 2', '0 read b text "lee" at 2', '0 read a text "kim" at 2', "0 read c none at 2"])
         self.row("one that gets nothing", at, ["claim a b jo"],
-                 ["0 wrote 0:3 clock 3 deps 2", '0 read a text "kim" at 3', '0 read b text "lee" at 3', "0 did nothing"], 1)
+                 ["0 wrote 0:3 clock 3 deps 2", "0 became 0:3 none", '0 read a text "kim" at 3', '0 read b text "lee" at 3'], 1)
         self.row("a single key, twice", at, ["claim d 5", "claim d 5"], ["0 wrote 0:4 clock 4 deps 3", "0 read d num 5 at 4", "0 read d num 5 at 4"])
         both = at + [(1, second.address())]
         state = os.path.join(self.room, "claims")
@@ -317,12 +317,12 @@ class Tries:
         self.stop_all()
 
     def additions(self):
-        """An addition to a text says that it did nothing, and the session has read nothing by that."""
+        """An addition to a text is told to have done nothing, and the session has read nothing by that."""
         server = self.start(self.folder())
         at = [(0, server.address())]
         self.row("to nothing, to a number, to a text", at, ["add n 5", "add n 2", "put t kim", "session", "add t 1", "session", "get n"],
-                 ["0 wrote 0:1 clock 1 deps 0", "0 wrote 0:2 clock 2 deps 1", "0 wrote 0:3 clock 3 deps 2", "session 0 asks all",
-                  "session 0 read 0 wrote 3", "0 wrote 0:4 clock 4 deps 3", "0 did nothing", "session 0 asks all", "session 0 read 0 wrote 4",
+                 ["0 wrote 0:1 clock 1 deps 0", "0 wrote 0:2 clock 2 deps 1", "0 became 0:2 merge 1", "0 wrote 0:3 clock 3 deps 2", "session 0 asks all",
+                  "session 0 read 0 wrote 3", "0 wrote 0:4 clock 4 deps 3", "0 became 0:4 none", "session 0 asks all", "session 0 read 0 wrote 4",
                   "0 read n num 7 at 4"], 1, words=["--session", "all"])
         self.stop_all()
 
@@ -347,7 +347,7 @@ class Tries:
         both = at + [(1, second.address())]
         status, printed, told = self.call(at, ["help", "get a"])
         words = [line.split()[0] for line in printed[:-1]]
-        self.that("help", (status, set("put add del claim get again at list servers session dump help quit".split()) - set(words), printed[-1:], told),
+        self.that("help", (status, set("put add del claim get became again at list servers session dump help quit".split()) - set(words), printed[-1:], told),
                   (0, set(), ["0 read a none at 0"], []))
         self.row("quit", at, ["get a", "  quit ", "get a", "nothing"], ["0 read a none at 0"])
         self.row("help and quit take no words", at, ["help me"], [], 2, ["bayou: line 1: " + UNKNOWN])
@@ -371,13 +371,15 @@ class Tries:
                 process = subprocess.Popen(call + words, stdin=subprocess.PIPE, stdout=subprocess.PIPE)
                 for name, line, expected, least, seconds in [
                     ("a read", b"get none\n", "0 read none none at 0,0", most, most + BUSY), ("a second read", b"get none\n", "0 read none none at 0,0", 0, 1),
-                    ("a list", b"list\n", "list 1 keys 0", 0, 1), ("a Write", b"del none\n", "0 wrote 1:1 clock 1 deps 0,0", 0, 1),
+                    ("a list", b"list\n", "list keys 0 at 0,0", 0, 1), ("a Write", b"del none\n", "0 wrote 1:1 clock 1 deps 0,0", 0, 1),
                 ]:
                     process.stdin.write(line)
                     process.stdin.flush()
                     begun = time.monotonic()
                     printed = process.stdout.readline().decode().strip()
                     took = time.monotonic() - begun
+                    if "wrote" in expected:
+                        process.stdout.readline()
                     if words:
                         expected = expected.replace("1:1 clock 1 deps 0,0", "1:2 clock 2 deps 0,1").replace("at 0,0", "at 0,1")
                     self.that("%s with %s" % (name, words), printed, expected)
@@ -421,15 +423,10 @@ class Tries:
         slack = 16 * 2**20 // len(item)
         endless = Holding(lambda: itertools.repeat(item))
         begun = time.monotonic()
-        self.row("a list of a server that never ends", [(0, endless.address)], ["list"], ["list lost"], 1)
-        self.that("it is left behind as many Writes as a server holds: %d Items" % endless.sent, 65536 <= endless.sent <= 65537 + slack)
-        self.that("and that takes some seconds", time.monotonic() - begun < 20)
-        self.row("the next one is listed", [(1, endless.address), (0, server.address())], ["list"],
-                 ['%s text "%s"' % (key, text) for _, key, text in ops] + ["list 0 keys 8"])
         book = os.path.join(self.room, "endless.book")
         self.row("what it holds isn't in the book", [(0, endless.address)], ["dump"], ["dump 0 away"], 1, words=["--book", book])
-        self.row("one Write", [(0, Holding(lambda: [item]).address)], ["list"], ['%s text "%s"' % (key, text) for _, key, text in ops] + ["list 0 keys 8"])
-        self.row("twice the same Write", [(0, Holding(lambda: [item, item]).address)], ["list"], ["list lost"], 1)
+        self.that("it is left behind as many Writes as a server holds: %d Items" % endless.sent, 65536 <= endless.sent <= 65537 + slack)
+        self.that("and that takes some seconds", time.monotonic() - begun < 20)
         with open(book) as file:
             self.that("the book is as it was", [json.loads(line)[0] for line in file.read().splitlines()], ["servers"])
         try:
@@ -439,18 +436,167 @@ class Tries:
         self.that("in python too", told, "lost")
         self.stop_all()
 
-    def late(self):
-        """A list of many Writes that come late takes time in proportion: of eight times as many at most 24 times as long."""
-        took = []
-        for count in [4000, 32000]:
-            holding = Holding(lambda: items)
-            items = apart_items(count)
-            before = resource.getrusage(resource.RUSAGE_CHILDREN)
-            status, printed, told = self.call([(0, holding.address)], ["list"], seconds=120)
-            after = resource.getrusage(resource.RUSAGE_CHILDREN)
-            took.append(after.ru_utime - before.ru_utime)
-            self.that("a list of %d Writes" % (2 * count), (status, printed[-1], told), (0, "list 0 keys %d" % min(count, 5000), []))
-        self.that("processor seconds: %.2f and %.2f" % tuple(took), took[1] <= 24 * max(took[0], 0.05))
+    def pages(self):
+        """A list of many rows comes page after page, of one database; pages that no server tells are none."""
+        folder = self.folder()
+        server = self.start(folder)
+        at = [(0, server.address())]
+        keys = ["mon/%04d" % number for number in range(700)]
+        with bayou.Session([server.address()]) as session:
+            for at_key in range(0, len(keys), 8):
+                session.write({"update": [["put", key, keys.index(key)] for key in keys[at_key:at_key + 8]]})
+            session.write({"update": [["put", key, 1] for key in ["mo", "mon", "tue/1", "a"]]})
+            session.write({"update": [["del", "mon/0300"]]})
+        rows = ["%s num %d" % (key, number) for number, key in enumerate(keys) if key != "mon/0300"]
+        count = 90
+        self.row("all that begin so", at, ["list mon/"], rows + ["list mon/ keys 699 at %d" % count])
+        self.row("and so", at, ["list mon"], ["mon num 1"] + rows + ["list mon keys 700 at %d" % count])
+        self.row("all", at, ["list"], ["a num 1", "mo num 1", "mon num 1"] + rows + ["tue/1 num 1", "list keys 703 at %d" % count])
+        self.row("a single one", at, ["list mon/0299"], [rows[299], "list mon/0299 keys 1 at %d" % count])
+        self.row("none", at, ["list sun/", "list mon/0300"], ["list sun/ keys 0 at %d" % count, "list mon/0300 keys 0 at %d" % count])
+        self.row("two are too many", at, ["list a b"], [], 2, ["bayou: line 1: " + COUNT])
+        self.row("what is no key", at, ["list A"], [], 2, ["bayou: line 1: " + KEY])
+        self.row("what a list showed was read", at, ["list sun/", "session"], ["list sun/ keys 0 at %d" % count, "session 0 asks all", "session 0 read %d wrote 0" % count],
+                 words=["--session", "all"])
+        for name, answer in [
+            ("rows that never end", lambda n: page(full(n), 1)), ("none, and more", lambda n: page([], 1)), ("room for more", lambda n: page(full(n)[1:], 1)),
+            ("rows out of order", lambda n: page([("b", 1), ("a", 1)])), ("a row twice", lambda n: page([("a", 1), ("a", 1)])),
+            ("the same page again", lambda n: page([("a", 1)], 1)), ("more rows than a page has", lambda n: page([("k%03d" % row, 1) for row in range(122)])),
+            ("fewer rows than are counted", lambda n: page([("a", 1)], count=2)), ("a row more than is counted", lambda n: page([("a", 1), ("b", 1)], count=1)),
+            ("no word of whether there are more", lambda n: page([("a", 1)], 2)), ("another frame", lambda n: b"\0\1\x16"), ("nothing", lambda n: b""),
+        ]:
+            self.row("no page: " + name, [(0, Paging(answer).address)], ["list"], ["list lost"], 1)
+        self.row("rows that begin otherwise", [(0, Paging(lambda n: page([("a", 1)])).address)], ["list b"], ["list lost"], 1)
+        changing = Paging(lambda n: page(full(n) if n % 2 else full(n)[:1], n % 2, frames.counts(n)))
+        shown = lambda rows: ["%s num %d" % row for row in rows]  # noqa: E731
+        self.row("pages of several databases", [(0, changing.address)], ["list"], shown(full(5) + full(6)[:1]) + ["list keys 122 mixed at 6"])
+        self.that("it was begun anew twice", changing.asked, 6)
+        once = Paging(lambda n: page(full(n) if n % 2 else full(n)[:1], n % 2, frames.counts(2 if n > 1 else 1)))
+        self.row("of another one once", [(0, once.address)], ["list"], shown(full(3) + full(4)[:1]) + ["list keys 122 at 2"])
+        self.stop_all()
+
+    def never_back(self):
+        """Ten thousand lists of a session that asks for Monotonic Reads, at three servers that pull from one another while Writes are made: none goes
+        back, and the audit of it is clean."""
+        folder, ports = self.folder(), [free_port() for _ in range(3)]
+        peers = [[(other, ports[other]) for other in range(3) if other != index] for index in range(3)]
+        servers = [self.start(folder, index, 3, port=ports[index], peers=peers[index], words=["--every", "1"]) for index in range(3)]
+        at = [(index, server.address()) for index, server in enumerate(servers)]
+        over, draw = threading.Event(), random.Random(83)
+
+        def write():
+            with bayou.Session([server.address() for server in servers], number=31) as session:
+                while not over.wait(0.002):
+                    session.write({"update": [["put", "k%02d" % draw.randrange(30), draw.randrange(1000)]]}, draw.randrange(3))
+
+        writer = threading.Thread(target=write, daemon=True)
+        writer.start()
+        book = os.path.join(self.room, "never_back.book")
+        turns = random.Random(8383)
+        try:
+            lines = [line for _ in range(LISTS) for line in ("at %d" % turns.randrange(3), "list k")]
+            status, printed, told = self.call(at, lines, ["--book", book, "--session", "mr"], seconds=10 * SECONDS)
+        finally:
+            over.set()
+        writer.join()
+        seen = [tuple(map(int, line.split()[-1].split(","))) for line in printed if line.startswith("list k keys ")]
+        self.that("each list is served", (status, len(seen), told), (0, LISTS, []))
+        back = [turn for turn, (before, after) in enumerate(zip(seen, seen[1:])) if any(now < then for then, now in zip(before, after))]
+        self.that("none goes back", back, [])
+        self.that("they are of several databases: %d" % len(set(seen)), len(set(seen)) > 10)
+        for index, server in enumerate(servers):
+            self.that("server %d ends" % index, server.end()[0], 0)
+        self.servers = []
+        # Each server pulls what the others have before it is dumped: evidence is of all that was held.
+        servers = [self.start(folder, index, 3, new=False, port=ports[index], peers=peers[index], words=["--every", "1"]) for index in range(3)]
+        self.that("all meet", self.met([server.address() for server in servers]))
+        self.row("all that they hold", at, ["dump"], ["dump %d writes %d" % (index, self.held) for index in range(3)], words=["--book", book])
+        audit = subprocess.run([self.program, "audit", book], stdout=subprocess.PIPE, timeout=SECONDS)
+        self.that("the audit is clean", (audit.returncode, audit.stdout.decode().splitlines()[:1]), (0, ["clean"]))
+        self.stop_all()
+
+    def met(self, addresses):
+        """Whether the servers hold the same before long; how many Writes that is, is noted."""
+        end = time.monotonic() + SECONDS
+        while time.monotonic() < end:
+            held = []
+            for address in addresses:
+                with bayou.Session([address]) as session:
+                    session.read("a")
+                    held.append(session.seen)
+            if len(set(held)) == 1:
+                self.held = sum(held[0])
+                return True
+            time.sleep(0.2)
+        return False
+
+    def in_python(self):
+        """Rows, outcomes, claims and changes by the client in python, in a session that `bayou connect` goes on with."""
+        folder, state = self.folder(), os.path.join(self.room, "in_python")
+        at = [(index, self.start(folder, index, 2).address()) for index in range(2)]
+        addresses, zero = [address for _, address in at], frames.ZERO
+        with bayou.Session(addresses, asks=["ryw", "mr", "wfr", "mw"], state=state) as session:
+            accepted = session.write({"update": [["put", "mon/09", "kim"]]})
+            listing, whole = session.list("mon/"), session.list()
+            self.that("rows", (dict(listing), listing.vector, listing.is_mixed), ({"mon/09": "kim"}, frames.counts(1), False))
+            self.that("all rows", dict(whole), {"mon/09": "kim"})
+            outcome = session.outcome(accepted)
+            self.that("an outcome", (outcome.became, outcome.clock), ("update", 1))
+            self.that("of a Write that isn't held", session.outcome((0, 7)), None)
+            claims = [session.claim(["mon/09", "mon/10"], name) for name in ("lee", "lee", "jo")]
+            self.that("claims", claims, ["mon/10", "mon/10", None])
+            changed = session.changes()
+            self.that("all that there is has changed", (changed.rows, changed.vector), ({"mon/09": "kim", "mon/10": "lee"}, frames.counts(3)))
+            session.write({"update": [["del", "mon/10"]]})
+            self.that("what changed since", session.changes().rows, {"mon/10": None})
+            self.that("nothing", session.changes().rows, {})
+            for name, ask in (("rows", lambda: session.list("", 1)), ("an outcome", lambda: session.outcome(accepted, 1))):
+                try:
+                    told = ask()
+                except bayou.Behind as behind:
+                    told = behind.vector
+                self.that("a server that is behind tells no %s" % name, told, zero)
+            self.that("the next one does", dict(session.list_anywhere("mon")), {"mon/09": "kim"})
+            session.write({"update": [["put", "m/%04d" % number, number] for number in range(8)]})
+            for start in range(8, 400, 8):
+                session.write({"update": [["put", "m/%04d" % number, number] for number in range(start, start + 8)]})
+            self.that("many rows", dict(session.list("m/")), {"m/%04d" % number: number for number in range(400)})
+            held = sum(session.seen)
+        self.row("`connect` goes on with that session", at, ["session", "list mon"],
+                 ["session 0 asks all", "session 0 read %d,0 wrote %d,0" % (held, held), 'mon/09 text "kim"', "list mon keys 1 at %d,0" % held], words=["--state", state])
+        self.row("at a server that is behind it is refused", at[1:], ["list"], ["0 refused behind at 0,0"], 1, words=["--state", state])
+        self.row("it writes", at, ["put a 1"], ["0 wrote 0:%d clock %d deps %d,0" % (held + 1, held + 1, held)], words=["--state", state])
+        with bayou.Session(addresses, state=state) as session:
+            self.that("and python goes on with it", (session.list_anywhere("a")["a"], session.outcome((0, held + 1)).became), (1, "update"))
+        session = bayou.Session(addresses, state=state)
+        self.row("a file in use is refused", at, ["session"], [], 3, ["bayou: %s: it can't be opened, or another process has it" % state], words=["--state", state])
+        session.close()
+        self.stop_all()
+
+    def outcomes(self):
+        """What became of a Write is told by its name, as the server has it by then, and counts as read."""
+        folder = self.folder()
+        first, second = self.start(folder, 0, 2), self.start(folder, 1, 2)
+        both = [(0, first.address()), (1, second.address())]
+        self.row("by name", both, ["put a 1", "claim a b c kim", "claim a b c lee", "claim a b c jo", "became 0:1", "became 0:2", "became 0:3", "became 0:4", "became 0:5"],
+                 ["0 wrote 0:1 clock 1 deps 0,0", "0 wrote 0:2 clock 2 deps 1,0", "0 became 0:2 merge 1", "0 read a num 1 at 2,0", '0 read b text "kim" at 2,0',
+                  "0 wrote 0:3 clock 3 deps 2,0", "0 became 0:3 merge 2", "0 read a num 1 at 3,0", '0 read b text "kim" at 3,0', '0 read c text "lee" at 3,0',
+                  "0 wrote 0:4 clock 4 deps 3,0", "0 became 0:4 none", "0 read a num 1 at 4,0", '0 read b text "kim" at 4,0', '0 read c text "lee" at 4,0',
+                  "0 became 0:1 update", "0 became 0:2 merge 1", "0 became 0:3 merge 2", "0 became 0:4 none", "0 became 0:5 unknown"], 1)
+        self.row("the server that accepted it is asked first", both, ["at 1", "became 0:3", "became 1:1"], ["0 became 0:3 merge 2", "0 became 1:1 unknown"])
+        state = os.path.join(self.room, "outcomes")
+        self.row("it counts as read", both, ["became 0:1", "session"], ["0 became 0:1 update", "session 0 asks all", "session 0 read 4,0 wrote 0,0"],
+                 words=["--state", state, "--session", "all"])
+        self.row("a server that is behind doesn't tell", both[1:], ["became 0:1", "became 1:1"], ["0 refused behind at 0,0", "0 refused behind at 0,0"], 1, words=["--state", state])
+        self.row("a Write of one's own isn't read by that", both[:1], ["put d 1", "session"],
+                 ["0 wrote 0:5 clock 5 deps 4", "session 0 asks none", "session 0 read 0 wrote 5"])
+        self.row("several keys", both[:1], ["get a b none"], ["0 read a num 1 at 5", '0 read b text "kim" at 5', "0 read none none at 5"])
+        for line, fault in [("became", COUNT), ("became 0:1 0:2", COUNT), ("became 0", NAME), ("became 0:0", NAME), ("became 16:1", NAME), ("became +0:1", NAME),
+                            ("became 0:01", NAME), ("became 0:1x", NAME), ("get", COUNT), ("get a b c d e f", COUNT), ("get a B", KEY)]:
+            self.row("no such line: " + line, both[:1], [line], [], 2, ["bayou: line 1: " + fault])
+        first.kill()
+        self.row("nobody is reached", both[:1], ["became 0:1", "list"], ["0 refused away", "list lost"], 1)
+        self.stop_all()
 
     def turns(self):
         folder = self.folder()
@@ -464,7 +610,7 @@ class Tries:
                  ["0 wrote 0:3 clock 3 deps 2,0", "0 refused behind at 0,1"], 1, words=["--session", "ryw"])
         first.kill()
         self.row("one that is away is passed by", both, ["get b", "servers", "list"],
-                 ["0 read b num 2 at 0,1", "server 0 away", "server 1 at 0,1 holds 1 of 65536", "b num 2", "list 1 keys 1"], 1)
+                 ["0 read b num 2 at 0,1", "server 0 away", "server 1 at 0,1 holds 1 of 65536", "b num 2", "list keys 1 at 0,1"], 1)
         second.kill()
         self.row("all away", both, ["get b", "put b 1", "servers", '["read",0,0,"b"]', '["reopen",1]', "list"],
                  ["0 refused away", "0 refused away", "server 0 away", "server 1 away", "0 refused away", "reopen refused away", "list lost"], 1)
@@ -505,7 +651,7 @@ class Tries:
             self.that("and a Write goes nowhere else", told, "lost")
         # What the server holds is told as it is greeted; the first reply is what it sends of that.
         way = DropReply(server.port, 1)
-        self.row("a list whose reply is lost goes to the next server", [(0, way.address), (1, other.address())], ["list"], ["list 1 keys 0"])
+        self.row("a list whose reply is lost goes to the next server", [(0, way.address), (1, other.address())], ["list"], ["list keys 0 at 0,0"])
         self.stop_all()
 
     def kept(self):
@@ -664,8 +810,8 @@ class Tries:
     def lists(self):
         """A list shows nothing older than what the session needs: of a server that is behind it is told so, or the next one is listed."""
         both = self.apart()
-        for asks, lines in [("mr", ["get a"]), ("ryw", ["put b 2"]), ("all", ["put b 2", "get a"])]:
-            state = os.path.join(self.room, "lists-" + asks)
+        for turn, (asks, lines) in enumerate([("mr", ["get a"]), ("mr", ["list"]), ("mr", ["became 0:1"]), ("ryw", ["put b 2"]), ("all", ["put b 2", "get a"])]):
+            state = os.path.join(self.room, "lists-%d" % turn)
             told = self.call(both[:1], lines, ["--servers", "2", "--state", state, "--session", asks])
             self.that("at the first, asking for " + asks, told[0], 0)
             held = bayou.Link(both[0][1]).dump()
@@ -673,11 +819,11 @@ class Tries:
             self.row("a list at one that is behind, asking for " + asks, both[1:], ["list"], ["0 refused behind at 0,0"], 1, words=["--state", state])
             self.row("as a read is told, asking for " + asks, both[1:], ["get a"], ["0 refused behind at 0,0"], 1, words=["--state", state])
             self.row("the next one is listed, asking for " + asks, [both[1], both[0]], ["list", "at 1", "list"],
-                     rows + ["list 0 keys %d" % len(rows)] + rows + ["list 0 keys %d" % len(rows)], words=["--state", state])
-        self.row("a session that needs nothing is shown what is there", both[1:], ["list"], ["list 1 keys 0"])
+                     2 * (rows + ["list keys %d at %d,0" % (len(rows), len(held))]), words=["--state", state])
+        self.row("a session that needs nothing is shown what is there", both[1:], ["list"], ["list keys 0 at 0,0"])
         for asks in ["wfr", "mw", "none"]:
             status, printed, told = self.call(both, ["get a", "put c 3", "at 1", "list"], ["--session", asks])
-            self.that("a session that asks for %s is shown what is there" % asks, (status, printed[-1:], told), (0, ["list 1 keys 0"], []))
+            self.that("a session that asks for %s is shown what is there" % asks, (status, printed[-1:], told), (0, ["list keys 0 at 0,0"], []))
         self.stop_all()
 
     def guarantees_alone(self):
@@ -695,9 +841,9 @@ class Tries:
             for first, line, expected in [("read", "get a", alone.after_read(asks)), ("wrote", "put k 2", alone.after_write(asks))]:
                 state = os.path.join(self.room, "alone-%s-%s" % (name, first))
                 told = self.call(both[:1], [line], words + ["--servers", "2", "--state", state])
-                self.that("%s, having %s, is kept" % (name, first), ([alone.kind(line) for line in told[1]], told[2]), ([first], []))
+                self.that("%s, having %s, is kept" % (name, first), (kinds_of(told[1]), told[2]), ([first], []))
                 told = self.call(both[1:], ["get a", "put k 3"], ["--state", state])
-                self.that("%s, having %s, over two calls" % (name, first), ([alone.kind(line) for line in told[1]], told[2]), (expected, []))
+                self.that("%s, having %s, over two calls" % (name, first), (kinds_of(told[1]), told[2]), (expected, []))
             self.alone_in_python([address for _, address in both], asks)
         self.stop_all()
 
@@ -878,7 +1024,7 @@ class Tries:
         self.that("server %d is apart again" % to, again.serving() is not None)
 
 
-GROUPS = ["words", "lines", "values", "claims", "additions", "words_of_lines", "silent", "dripped", "unbelievable", "late", "turns", "lost", "asks", "lists", "guarantees_alone", "kept", "grown", "killed", "guarantees", "drawn", "strangers", "keyed", "calendar"]
+GROUPS = ["words", "lines", "values", "claims", "additions", "words_of_lines", "silent", "dripped", "unbelievable", "pages", "never_back", "in_python", "outcomes", "turns", "lost", "asks", "lists", "guarantees_alone", "kept", "grown", "killed", "guarantees", "drawn", "strangers", "keyed", "calendar"]
 
 
 def main():

@@ -20,6 +20,7 @@ from greeting import Greeting
 from holding import Holding
 from keys import Keys
 from living import SECONDS, Server, slowness
+from lookups import Lookups
 from meeting import Fake, count_of, dump_of, ended, free_port, items, soon, struct_of
 
 sys.path.insert(0, os.path.join("..", "clients", "python"))
@@ -32,7 +33,7 @@ def numbered(number):
     return {"update": [["put", "k%03d" % (number % 500), number]]}
 
 
-class Tries(Holding, Greeting, Keys, Differing):
+class Tries(Holding, Greeting, Keys, Differing, Lookups):
     def __init__(self, program, kills, room):
         self.program, self.kills, self.room, self.checks = program, kills, room, Checks()
 
@@ -176,7 +177,7 @@ class Tries(Holding, Greeting, Keys, Differing):
         session = bayou.Session([server.address()])
         for _ in range(20):
             session.write({"update": [["put", "n", 0]]} if session.place == 0 else {"check": [["absent", "n"]], "merge": [{"ops": [["put", "n", ["plus", "n", 1]]]}]})
-            session.pending = (0, session_request(session), (0,) * bayou.SERVERS)
+            session.pending = (0, (session.number, session.run, session.place), last_program(session))
             session.links[0].close()
             session.again()
         self.that("each is held once", server.end()[1][-1:], ["log 0 at 20"])
@@ -529,11 +530,10 @@ def written_in(folder):
     return sorted(name for name in os.listdir(folder) if os.path.getsize(os.path.join(folder, name)) > 0)
 
 
-def session_request(session):
-    """The request of the session's last Write, which was told as accepted: a Write that only adds one."""
+def last_program(session):
+    """The program of the session's last Write, which was told as accepted: one that only adds one."""
     program = {"update": [["put", "n", 0]]} if session.place == 1 else {"check": [["absent", "n"]], "merge": [{"ops": [["put", "n", ["plus", "n", 1]]]}]}
-    tag = bayou.struct.pack(">BII", session.number, session.run, session.place)
-    return bayou._frame(bayou._WRITE, tag + bayou._vector((0,) * bayou.SERVERS) + bayou.program_bytes(program))
+    return bayou.program_bytes(program)
 
 
 def drip(stream, seconds):
@@ -624,7 +624,7 @@ def asked_again(session, stop):
     return None
 
 
-GROUPS = ["words", "guards", "clients", "repeats", "patience", "strangers", "short_connections", "crowds", "peers", "hanging", "restores", "full_disk", "dumps", "together", "bad_peers_at_start", "offers_while_starting", "descriptors", "strays", "greetings", "mistaken_peers", "one_more_server", "older_peers", "older_clients", "old_copies", "one_number", "liars", "alike", "keys", "let_in", "labels", "keyed_peers", "late", "written_to_steadily", "fair", "killed"]
+GROUPS = ["words", "guards", "clients", "repeats", "patience", "strangers", "short_connections", "crowds", "peers", "hanging", "restores", "full_disk", "dumps", "together", "bad_peers_at_start", "offers_while_starting", "descriptors", "strays", "greetings", "mistaken_peers", "one_more_server", "older_peers", "older_clients", "lookups", "lookups_with_a_key", "old_copies", "one_number", "liars", "alike", "keys", "let_in", "labels", "keyed_peers", "late", "written_to_steadily", "fair", "killed"]
 
 
 def main():

@@ -292,17 +292,17 @@ def again_at(checks, host, address, held):
     """A Write that the client loses the reply to, and asks again: it is one Write."""
     with bayou.Session([address], ["wfr"], number=3, run=9) as session:
         host.left -= 2
-        link, send = session.links[0], bayou.Link._reply
+        link, send = session.links[0], bayou._Connection.reply
 
         def lose(_, kinds):
             raise bayou.Lost("tried")
-        bayou.Link._reply = lose
+        bayou._Connection.reply = lose
         try:
             session.write(as_in_a_line(P))
         except bayou.Lost:
-            checks.that("a lost reply closes the client's connection", link.socket, None)
+            checks.that("a lost reply closes the client's connection", link.requests.socket, None)
         finally:
-            bayou.Link._reply = send
+            bayou._Connection.reply = send
         checks.that("the client's Write, asked again", session.again().seq, held + 1)
 
 

@@ -5,11 +5,13 @@
     session = bayou.Session(["127.0.0.1:7000", "127.0.0.1:7001"], asks=["ryw", "mr"])
     session.write({"update": [["put", "room/9", "kim"]]})
     print(session.read("room/9"))
+    print(session.list("room/"))
 
 A session keeps what it wrote and read as two vectors, and so is never served an older state than it asked for (docs/GUARANTEES.md). It isn't for
 several threads at once. Servers are those of `bayou serve` (docs/SERVE.md); the bytes are those of docs/PROTOCOL.md and docs/FORMATS.md.
 """
 import contextlib
+import hashlib
 import hmac
 import os
 import random
@@ -17,21 +19,24 @@ import re
 import socket
 import struct
 import time
-from typing import Dict, Iterable, List, Optional, Sequence, Tuple, Union
+import warnings
+from typing import Any, Dict, Iterable, List, Optional, Sequence, Tuple, Union
 
 # What a key has, what is told of a Write, and what a program is written as.
 Value = Union[int, str]
 Vector = Tuple[int, ...]
 Program = Dict[str, list]
+Path = Union[str, "os.PathLike[str]"]
 
 SERVERS = 16
 SESSIONS = 32
 MAX_NUMBER = 2**32 - 1
 ASKS = ("ryw", "mr", "wfr", "mw")
 
-_READ, _REOPEN, _DUMP, _WRITE = 0x01, 0x03, 0x04, 0x06
+_READ, _REOPEN, _DUMP, _OFFER, _WRITE = 0x01, 0x03, 0x04, 0x05, 0x06
 _SEEN, _ACCEPTED, _REFUSED, _REOPENED, _ITEM, _END = 0x11, 0x12, 0x13, 0x14, 0x15, 0x16
 _HELLO, _PROOF, _WELCOME, _KNOWN = 0x20, 0x21, 0x30, 0x31
+_LIST, _BECAME, _OUTCOME, _LISTED = 0x22, 0x23, 0x33, 0x35
 # The version of greetings that is spoken; what a Hello says where any server is asked, or a client asks; how many bytes a nonce and a proof have.
 _VERSION, _ANY, _NONCE, _PROVED = 1, 255, 16, 32
 _KEY_BYTES = frozenset(b"abcdefghijklmnopqrstuvwxyz0123456789._-/")
@@ -40,6 +45,12 @@ _MAX_COUNT = 65_536
 _MAX_FRAME = 8_192
 _MAX_WRITE = 5_844
 _MAX_TEXT = 32
+# How many rows a page has at the most, and all pages of a listing: a server holds so many Writes, of which each changes eight keys at the most.
+_PAGE_ROWS, _MAX_ROWS = 121, 8 * _MAX_COUNT
+# What a file begins with in which sessions are kept, how many bytes its entries have at the most, and behind how many of them it is written anew.
+_HEADER, _DIGEST, _MAX_BODY, _MAX_KEPT = b"BAYOUJNL\x03\x00", 32, 8_192, 65_536
+# How many keys a claim has at the most: one, and an alternative for each other.
+_CLAIMED = 5
 # For so long a server that was silent is asked after all others.
 _SILENT_SECONDS = 60
 # A reply is to come whole within the timeout, the connection too, and within a second more for each so many bytes of it that came.
@@ -54,12 +65,21 @@ class BadRequest(BayouError, ValueError):
     """What is asked for has no bytes: a key, a value or a program is none. Nothing was sent."""
 
 
+class BadState(BayouError):
+    """The file in which sessions are kept is none, is damaged, in use, or of another store, or a call of it failed. A Write that wasn't sent yet isn't sent;
+    one that was sent may have been accepted, and `again` of the next session with this file asks it once more."""
+
+
 class Away(BayouError):
     """No connection to the server came about. Nothing was sent."""
 
 
 class Stranger(Away):
     """Who answers isn't the server that was asked for, or doesn't prove that it has the key. No request was sent."""
+
+
+class Older(BayouError):
+    """The server is older: it knows no listings."""
 
 
 class Lost(BayouError):
@@ -119,8 +139,38 @@ class Accepted:
     def __init__(self, origin: int, seq: int, clock: int, deps: Vector):
         self.origin, self.seq, self.clock, self.deps = origin, seq, clock, deps
 
-    def __repr__(self):
+    def __repr__(self) -> str:
         return "Accepted(%d:%d clock %d)" % (self.origin, self.seq, self.clock)
+
+
+class Outcome:
+    """What became of a Write at a server. `became` is "update", "merge" or "none"; of a merge `alternative` says which it was, from 1 on, where 255
+    stands for 255 or more. `clock` is the Write's clock."""
+
+    def __init__(self, became: str, alternative: Optional[int], clock: int):
+        self.became, self.alternative, self.clock = became, alternative, clock
+
+    def __repr__(self) -> str:
+        return "Outcome(%s clock %d)" % (self.became if self.alternative is None else "%s %d" % (self.became, self.alternative), self.clock)
+
+
+class Listing(Dict[str, Value]):
+    """What keys have at a server, in the order of keys. `vector` is what the server held. Where `is_mixed` says so, its database changed while it told
+    them: each row was so at some time meanwhile, but not all at one, and the vector is that of the end."""
+
+    vector: Vector = _ZERO
+    is_mixed: bool = False
+
+
+class Changes:
+    """What changed since it was asked for last: `rows` has what each such key has now, or None where it is gone. `vector` and `is_mixed` are those of the
+    listing that it was seen by."""
+
+    def __init__(self, rows: Dict[str, Optional[Value]], vector: Vector, is_mixed: bool):
+        self.rows, self.vector, self.is_mixed = rows, vector, is_mixed
+
+    def __repr__(self) -> str:
+        return "Changes(%r)" % (self.rows,)
 
 
 # Bytes that are sent.
@@ -203,6 +253,25 @@ def program_bytes(program: Program) -> bytes:
             + _list(_alternative, members.get("merge", []), 4))
 
 
+def _claiming(keys, value):
+    """The program that sets the first of the keys that is absent to the value."""
+    if not isinstance(keys, (list, tuple)) or not 1 <= len(keys) <= _CLAIMED:
+        raise BadRequest("%r is no list of 1 to %d keys" % (keys, _CLAIMED))
+    _value(value)
+    checks, puts = [["absent", key] for key in keys], [["put", key, value] for key in keys]
+    others = [{"when": [check], "ops": [put]} for check, put in zip(checks[1:], puts[1:])]
+    return {"check": checks[:1], "update": puts[:1], "merge": others}
+
+
+def _name(accepted):
+    """The name of a Write, which may have been accepted just now."""
+    if isinstance(accepted, Accepted):
+        return accepted.origin, accepted.seq
+    if not isinstance(accepted, (list, tuple)) or len(accepted) != 2:
+        raise BadRequest("%r is no name of a Write" % (accepted,))
+    return _integer(accepted[0], 0, SERVERS - 1), _integer(accepted[1], 1, _MAX_COUNT)
+
+
 def _vector(vector):
     return struct.pack(">%dI" % SERVERS, *vector)
 
@@ -211,10 +280,16 @@ def _frame(kind, payload=b""):
     return struct.pack(">HB", len(payload) + 1, kind) + payload
 
 
+def _join(one, other):
+    return tuple(map(max, one, other))
+
+
 class Key:
     """The key of a store, in the file of this name, as `bayou key` makes it: the store's name and its secret."""
 
-    def __init__(self, path):
+    stranger = "it is of another store (%s)"
+
+    def __init__(self, path: Path):
         with open(path, "rb") as file:
             text = file.read(256)
         found = re.fullmatch(rb"bayou-key-1 ([a-z0-9._/-]{1,32}) ([0-9a-f]{64})\n?", text)
@@ -222,9 +297,24 @@ class Key:
             raise BadRequest("%s is no key of a store" % (path,))
         self.name, self.secret = found.group(1), bytes.fromhex(found.group(2).decode("ascii"))
 
-    def proof(self, role, *parts):
+    def proof(self, role: bytes, *parts: bytes) -> bytes:
         """What proves to have the key, of a server or of a client (docs/FORMATS.md)."""
         return hmac.new(self.secret, role + b"".join(parts), "sha256").digest()
+
+    def label(self) -> bytes:
+        """What says beside a file that it is of this store."""
+        line = b"bayou-key-1 %s %s" % (self.name, self.secret.hex().encode("ascii"))
+        return b"bayou-store-1 %s %s\n" % (self.name, hashlib.sha256(line).hexdigest().encode("ascii"))
+
+
+class _NoKey:
+    """What an open store has in place of a key."""
+
+    name = b""
+    stranger = "it wants the key of its store (%s)"
+
+    def proof(self, role, *parts):
+        return bytes(_PROVED)
 
 
 # Bytes that come.
@@ -277,6 +367,58 @@ class _Payload:
     def seen(self):
         return self.value(), self.vector()
 
+    def key(self):
+        (length,) = self.take(">B")
+        _none_unless(1 <= length <= _MAX_TEXT)
+        (key,) = self.take(">%ds" % length)
+        _none_unless(_KEY_BYTES.issuperset(key))
+        return key.decode("ascii")
+
+    def row(self):
+        key, value = self.key(), self.value()
+        _none_unless(value is not None)
+        return key, value
+
+    def listed(self):
+        vector, (more, count) = self.vector(), self.take(">BH")
+        _none_unless(more <= 1 and count <= _PAGE_ROWS)
+        return vector, more == 1, [self.row() for _ in range(count)]
+
+    def offer(self):
+        _none_unless(self.take(">HB") == (1 + 4 * SERVERS, _OFFER))
+        return self.vector()
+
+    def request(self):
+        """The tag of a request for a Write, and its program as it stands there."""
+        length, kind = self.take(">HB")
+        size = length - 1 - struct.calcsize(">BII") - 4 * SERVERS
+        _none_unless(kind == _WRITE and 0 < size and length <= _MAX_FRAME)
+        tag, _ = self.take(">BII"), self.vector()
+        return tag, self.take(">%ds" % size)[0]
+
+    def kept(self):
+        """What is kept of a session: its number, what it asks for, its place, what it read and wrote, and the Write that it may ask again."""
+        version, number, *flags, place, is_asking = self.take(">BBBBBBIB")
+        _none_unless(version == 1 and number < SESSIONS and max(flags) <= 1 and is_asking <= 1)
+        (server,) = self.take(">B") if is_asking else (0,)
+        reads, writes, pending = self.offer(), self.offer(), None
+        if is_asking:
+            tag, program = self.request()
+            _none_unless(server < SERVERS and tag[0] == number and 1 <= tag[1] and 1 <= tag[2] <= place)
+            pending = (server, tag, program)
+        self.end()
+        return number, frozenset(name for name, flag in zip(ASKS, flags) if flag), place, reads, writes, pending
+
+    def outcome(self):
+        vector, (word,) = self.vector(), self.take(">B")
+        if word == 0:
+            return vector, None
+        _none_unless(word <= 3)
+        alternative = self.take(">B")[0] if word == 2 else None
+        (clock,) = self.take(">I")
+        _none_unless(alternative != 0 and 1 <= clock <= _MAX_COUNT)
+        return vector, Outcome(("update", "merge", "none")[word - 1], alternative, clock)
+
     def accepted(self):
         origin, seq = self.name()
         (clock,), deps = self.take(">I"), self.vector()
@@ -317,7 +459,7 @@ class _Payload:
 
 
 _REPLIES = {_SEEN: _Payload.seen, _ACCEPTED: _Payload.accepted, _REFUSED: _Payload.refusal, _REOPENED: _Payload.reopened, _ITEM: _Payload.item, _END: _Payload.count,
-            _WELCOME: _Payload.welcome, _KNOWN: _Payload.known}
+            _WELCOME: _Payload.welcome, _KNOWN: _Payload.known, _OUTCOME: _Payload.outcome, _LISTED: _Payload.listed}
 
 
 def _place(address):
@@ -327,16 +469,14 @@ def _place(address):
     return host.strip("[]"), int(port)
 
 
-class Link:
-    """A connection to one server, which is made when it is needed, and anew where the server closed it. With the key of a store the server is greeted over
-    each of them: one that isn't of that store, or isn't of this number, is sent no request."""
+class _Connection:
+    """A connection to the server of a place, which is made when it is needed, and anew where the server closed it. With the key of a store, or for want of
+    one, the server is greeted over each of them: one that isn't of that store, or isn't of this number, is sent no request."""
 
-    def __init__(self, address: str, timeout: float = 3.0, key: Optional[Key] = None, server: Optional[int] = None):
-        self.address, self.timeout = _place(address), timeout
+    def __init__(self, place, timeout, key, server):
+        self.place, self.timeout = place, timeout
         self.key, self.server = key, server
         self.socket = None
-        # Until when it is asked after all others: it was silent.
-        self.silent_until = 0.0
         # What came of replies and wasn't read yet, and when the reply is to be there.
         self.came, self.latest = bytearray(), 0.0
 
@@ -363,16 +503,12 @@ class Link:
             pass
         return False
 
-    def is_silent(self) -> bool:
-        """Whether it was silent for its whole time, less than a minute ago."""
-        return time.monotonic() < self.silent_until
-
     def _connect(self):
         if self._is_open():
             return
         self.close()
         try:
-            self.socket = socket.create_connection(self.address, self.timeout)
+            self.socket = socket.create_connection(self.place, self.timeout)
             self.socket.setsockopt(socket.IPPROTO_TCP, socket.TCP_NODELAY, 1)
         except OSError as error:
             self.close()
@@ -386,19 +522,25 @@ class Link:
         asked = _ANY if self.server is None else self.server
         try:
             self.socket.sendall(_frame(_HELLO, bytes([_VERSION, asked, _ANY, 0]) + nonce))
-            theirs = self._welcomed(nonce)
-            self.socket.sendall(_frame(_PROOF, self.key.proof(b"client", theirs, nonce) + b"\0"))
-            self._greeting(_KNOWN)
+            self._prove(self._welcomed(nonce), nonce)
         except Stranger:
             self.close()
             raise
         except (OSError, Lost) as error:
             self.close()
-            raise Stranger("no greeting: %s" % error) from None
+            raise Stranger("no greeting: %s" % error) from error
+
+    def _prove(self, theirs, nonce):
+        """Proves to have the key to a server that knows greetings, whatever it does then."""
+        try:
+            self.socket.sendall(_frame(_PROOF, self.key.proof(b"client", theirs, nonce) + b"\0"))
+            self._greeting(_KNOWN)
+        except OSError as error:
+            raise Lost(str(error)) from None
 
     def _greeting(self, kind):
         """What the next frame carries, which is a greeting of this kind."""
-        found, carried = self._reply((kind,))
+        found, carried = self.reply((kind,))
         _none_unless(found == kind)
         return carried
 
@@ -411,46 +553,88 @@ class Link:
             raise Stranger("it is server %d" % server)
         wanted = self.key.proof(b"server", nonce, theirs, bytes([server, count]))
         if name != self.key.name or not hmac.compare_digest(proof, wanted):
-            raise Stranger("it is of another store (%s)" % name.decode("ascii", "replace"))
+            raise Stranger(self.key.stranger % name.decode("ascii", "replace"))
         return theirs
 
-    def _reply(self, kinds):
+    def reply(self, kinds):
         """The next reply, which is of one of these kinds or a refusal, and what it carries."""
-        (length,) = struct.unpack(">H", self._exactly(2))
+        (length,) = struct.unpack(">H", self._front(2))
         _none_unless(1 <= length <= _MAX_FRAME)
-        kind, payload = self._exactly(1)[0], _Payload(self._exactly(length - 1))
+        frame = self._front(2 + length)
+        del self.came[:2 + length]
+        kind, payload = frame[2], _Payload(frame[3:])
         if kind != _REFUSED and kind not in kinds:
             raise Lost("a reply to something else")
         carried = _REPLIES[kind](payload)
         payload.end()
         return kind, carried
 
-    def _exactly(self, count):
+    def _front(self, count):
+        """The first so many bytes of what came, or comes in time."""
         while len(self.came) < count:
             left = self.latest - time.monotonic()
             if left <= 0:
                 raise Lost("no whole reply in time")
             self.socket.settimeout(left)
-            piece = self.socket.recv(65_536)
-            if not piece:
-                raise Lost("the connection ended")
+            piece = self._piece()
             self.came += piece
             self.latest += len(piece) / _SLOWEST_BYTES
-        found = bytes(self.came[:count])
-        del self.came[:count]
-        return found
+        return bytes(self.came[:count])
+
+    def _piece(self):
+        """What comes next. An end in place of a reply is a fault of its own kind: older servers end a connection so."""
+        try:
+            piece = self.socket.recv(65_536)
+        except ConnectionError:
+            piece = b""
+        if not piece and self.came:
+            raise Lost("the connection ended within a reply")
+        if not piece:
+            raise ConnectionResetError("the connection ended")
+        return piece
 
     @contextlib.contextmanager
-    def _closed_where_lost(self):
+    def closed_where_lost(self):
         """Closes the connection where a reply doesn't come whole: what came behind it would answer the next request."""
         try:
             yield
         except OSError as error:
             self.close()
-            raise Lost(str(error)) from None
+            raise Lost(str(error)) from error
         except Lost:
             self.close()
             raise
+
+    def ask(self, request, kinds):
+        """The first reply to the request, of which the kind is one of these, and what it carries."""
+        self.latest = time.monotonic() + self.timeout
+        self._connect()
+        with self.closed_where_lost():
+            self.socket.sendall(request)
+            kind, carried = self.reply(kinds)
+        if kind == _REFUSED:
+            raise carried
+        return kind, carried
+
+
+class Link:
+    """A server, with a connection for requests and one for lookups: it answers no lookup over one over which something else was asked. It is always
+    greeted over the second one, and over the first where its store has a key."""
+
+    def __init__(self, address: str, timeout: float = 3.0, key: Optional[Key] = None, server: Optional[int] = None):
+        self.address, self.timeout = _place(address), timeout
+        self.requests = _Connection(self.address, timeout, key, server)
+        self.lookups = _Connection(self.address, timeout, key or _NoKey(), server)
+        # Until when it is asked after all others: it was silent.
+        self.silent_until = 0.0
+
+    def close(self) -> None:
+        self.requests.close()
+        self.lookups.close()
+
+    def is_silent(self) -> bool:
+        """Whether it was silent for its whole time, less than a minute ago."""
+        return time.monotonic() < self.silent_until
 
     @contextlib.contextmanager
     def _silent_where_late(self):
@@ -465,17 +649,22 @@ class Link:
             raise
         self.silent_until = 0.0
 
-    def ask(self, request, *kinds):
+    def ask(self, request: bytes, *kinds: int) -> Tuple[int, Any]:
         """The first reply to the request, of which the kind is one of these, and what it carries."""
         with self._silent_where_late():
-            self.latest = time.monotonic() + self.timeout
-            self._connect()
-            with self._closed_where_lost():
-                self.socket.sendall(request)
-                kind, carried = self._reply(kinds)
-        if kind == _REFUSED:
-            raise carried
-        return kind, carried
+            return self.requests.ask(request, kinds)
+
+    def look(self, request: bytes, kind: int) -> Any:
+        """What the reply to a lookup carries. A server that ends the connection in its place, or in that of a greeting, is asked once more over another,
+        which does no harm; if that ends so too, it is an older one."""
+        with self._silent_where_late():
+            for _ in range(2):
+                try:
+                    return self.lookups.ask(request, (kind,))[1]
+                except (Lost, Stranger) as fault:
+                    if not isinstance(fault.__cause__, ConnectionError):
+                        raise
+            raise Older(Older.__doc__)
 
     def reopen(self) -> Optional[Tuple[int, int]]:
         """Has the server open its journal again, and tells the name of the Write that was adopted, if one was."""
@@ -485,13 +674,223 @@ class Link:
         """All Writes that the server holds, in order of receipt, each as its bytes."""
         writes = []
         kind, carried = self.ask(_frame(_DUMP), _ITEM, _END)
-        with self._closed_where_lost():
+        with self.requests.closed_where_lost():
             while kind == _ITEM and len(writes) < _MAX_COUNT:
                 writes.append(carried)
-                kind, carried = self._reply((_ITEM, _END))
+                kind, carried = self.requests.reply((_ITEM, _END))
             if kind != _END or carried != len(writes):
                 raise Lost("a dump that isn't whole")
         return writes
+
+
+# The file in which sessions are kept: a journal, of which the last entry of each session counts (docs/FORMATS.md).
+
+def _link_of(before, body):
+    return hashlib.sha256(before + struct.pack(">H", len(body)) + body).digest()
+
+
+def _entry(before, body):
+    return struct.pack(">H", len(body)) + body + _link_of(before, body)
+
+
+def _body_at(before, data, at):
+    """The body of the entry that stands there behind that digest, if one does."""
+    length = int.from_bytes(data[at:at + 2], "big")
+    end = at + 2 + length
+    if not 1 <= length <= _MAX_BODY or len(data) < end + _DIGEST:
+        return None
+    body = data[at + 2:end]
+    return body if data[end:end + _DIGEST] == _link_of(before, body) else None
+
+
+def _chain(data):
+    """The bodies of the entries, one behind another, the digest of the last, and where they end."""
+    bodies, last, at = [], hashlib.sha256(_HEADER).digest(), len(_HEADER)
+    body = _body_at(last, data, at)
+    while body is not None:
+        bodies.append(body)
+        last, at = _link_of(last, body), at + 2 + len(body) + _DIGEST
+        body = _body_at(last, data, at)
+    return bodies, last, at
+
+
+def _left_of(rest):
+    """How many bytes the entry has of which a call that was cut off may have left these: None where they are damage, and 0 where that isn't known."""
+    length = int.from_bytes(rest[:2], "big")
+    size = 2 + length + _DIGEST
+    if len(rest) < 2 or (not any(rest) and len(rest) <= 2 + _MAX_BODY + _DIGEST):
+        return 0
+    if not 1 <= length <= _MAX_BODY or len(rest) > size:
+        return None
+    if any(_body_at(rest[at:at + _DIGEST], rest, at + _DIGEST) is not None for at in range(len(rest) - _DIGEST)):
+        return None
+    return size
+
+
+def _sync_folder(path):
+    folder = os.open(os.path.dirname(path) or ".", os.O_RDONLY)
+    try:
+        os.fsync(folder)
+    finally:
+        os.close(folder)
+
+
+def _locked(path):
+    """The file of this name, which is made where it is missing, for its owner alone, and is locked as long as it is open."""
+    try:
+        import fcntl
+    except ImportError:
+        raise BadState("%s: no file can be locked here" % path) from None
+    file = open(path, "a+b", buffering=0, opener=lambda name, flags: os.open(name, flags, 0o600))
+    try:
+        fcntl.flock(file, fcntl.LOCK_EX | fcntl.LOCK_NB)
+        if not os.path.samestat(os.fstat(file.fileno()), os.stat(path)):
+            raise BlockingIOError("another one has its name by now")
+        os.fsync(file.fileno())
+        _sync_folder(path)
+        return file
+    except BaseException:
+        file.close()
+        raise
+
+
+def _put(file, piece):
+    """Adds the piece, if it has any byte, and makes all last."""
+    while piece:
+        piece = piece[file.write(piece):]
+    os.fsync(file.fileno())
+
+
+def _removed(path):
+    with contextlib.suppress(FileNotFoundError):
+        os.remove(path)
+
+
+class _State:
+    """A file in which sessions are kept, at a store of this key or at an open one: the same as of `bayou connect --state`."""
+
+    def __init__(self, path, key):
+        self.path, self.key = os.fsdecode(path), key
+        self.file, self.is_down = None, True
+        try:
+            with self._bad_where_failed():
+                self._is_labelled()
+                self.file = _locked(self.path)
+                self._open()
+                self._label()
+        except BaseException:
+            self.close()
+            raise
+        self.is_down = False
+
+    def close(self):
+        self.is_down = True
+        if self.file is not None:
+            self.file.close()
+
+    def _bad(self, why):
+        return BadState("%s: %s" % (self.path, why))
+
+    @contextlib.contextmanager
+    def _bad_where_failed(self):
+        try:
+            yield
+        except BlockingIOError:
+            raise self._bad("it is in use") from None
+        except OSError as error:
+            raise self._bad(error) from None
+
+    def _is_labelled(self):
+        """Whether something beside the file says of which store it is, which must be this one."""
+        try:
+            with open(self.path + ".store", "rb") as file:
+                text = file.read(256)
+        except FileNotFoundError:
+            return False
+        if self.key is not None and text == self.key.label():
+            return True
+        found = re.fullmatch(rb"bayou-store-1 ([a-z0-9._/-]{1,32}) [0-9a-f]{64}\n", text)
+        raise self._bad("it is of the store %s; give its key" % found.group(1).decode("ascii") if found else "its .store says no store")
+
+    def _label(self):
+        """Has it say beside the file of which store that is, where that has a key."""
+        if self.key is None or self._is_labelled():
+            return
+        label = self.path + ".store"
+        _removed(label + ".part")
+        with _locked(label + ".part") as file:
+            _put(file, self.key.label())
+            os.rename(label + ".part", label)
+        _sync_folder(label)
+
+    def _open(self):
+        """Reads what is kept. What a call left that was cut off is cut, and anything else that isn't as it must be is left as it is."""
+        self.file.seek(0)
+        data = self.file.readall()
+        is_new = len(data) < len(_HEADER) and _HEADER.startswith(data)
+        if not is_new and not data.startswith(_HEADER):
+            raise self._bad("it keeps no sessions")
+        bodies, self.last, end = _chain(_HEADER if is_new else data)
+        self._keeps(bodies)
+        if is_new:
+            self.file.truncate(0)
+        elif end < len(data):
+            self._cut(data[end:], end)
+        _put(self.file, _HEADER if is_new else b"")
+
+    def _keeps(self, bodies):
+        try:
+            self.sessions = {kept[0]: (kept, body) for kept, body in ((_Payload(body).kept(), body) for body in bodies)}
+        except Lost:
+            raise self._bad("it keeps no sessions") from None
+        self.entries = len(bodies)
+
+    def _cut(self, rest, end):
+        size = _left_of(rest)
+        if size is None:
+            raise self._bad("it is whole up to byte %d, and the %d bytes behind that are damaged; nothing was changed" % (end, len(rest)))
+        self.file.truncate(end)
+        if len(rest) == size:
+            warnings.warn("%s: the last entry is damaged: its %d bytes from byte %d on were dropped" % (self.path, size, end), stacklevel=5)
+
+    def kept(self, number):
+        """What is kept of the session of this number, if it was kept."""
+        return self.sessions[number][0] if number in self.sessions else None
+
+    def check(self):
+        """That something can be kept: behind a call that failed nothing is kept any more."""
+        if self.is_down:
+            raise self._bad("it is closed, or a call of it failed")
+
+    def keep(self, body):
+        """Keeps a session behind all else, and makes that last."""
+        self.check()
+        self.is_down = True
+        with self._bad_where_failed():
+            if self.entries > _MAX_KEPT:
+                self._write_anew()
+            _put(self.file, _entry(self.last, body))
+        kept = _Payload(body).kept()
+        self.sessions[kept[0]] = (kept, body)
+        self.last, self.entries = _link_of(self.last, body), self.entries + 1
+        self.is_down = False
+
+    def _write_anew(self):
+        """Puts a file in its place that has the last of each session alone."""
+        text, last, part = _HEADER, hashlib.sha256(_HEADER).digest(), self.path + ".part"
+        for _, body in self.sessions.values():
+            text, last = text + _entry(last, body), _link_of(last, body)
+        _removed(part)
+        file = _locked(part)
+        try:
+            _put(file, text)
+            os.rename(part, self.path)
+        except BaseException:
+            file.close()
+            raise
+        self.file.close()
+        self.file, self.last, self.entries = file, last, len(self.sessions)
+        _sync_folder(self.path)
 
 
 class Session:
@@ -502,44 +901,87 @@ class Session:
     in this program or another. Each is drawn at random where it isn't given. `key` is the file of the store's key, where the store has one: a server that
     doesn't prove that it has it is a `Stranger`. A server that is silent, or drips, is `Lost` after `timeout` seconds, and a
     second more for each 4,096 bytes that came; for a minute it is asked after all others then, where any server may be asked.
+
+    `state` is a file in which the session is kept from one run of a program to the next, the same as of `bayou connect --state`: what the session was told
+    is kept before it is told here, and a Write before it is sent. Its number is 0 there, if none is given, and it asks for what it asked for first.
     """
 
-    def __init__(self, addresses: Sequence[Optional[str]], asks: Iterable[str] = (), number: Optional[int] = None, run: Optional[int] = None, timeout: float = 3.0,
-                 key: Union[None, str, "os.PathLike[str]"] = None):
+    def __init__(self, addresses: Sequence[Optional[str]], asks: Optional[Iterable[str]] = None, number: Optional[int] = None, run: Optional[int] = None,
+                 timeout: float = 3.0, key: Optional[Path] = None, state: Optional[Path] = None):
         if isinstance(addresses, str):
             raise BadRequest("%r is no list of addresses" % (addresses,))
         if isinstance(asks, str):
             raise BadRequest("what a session asks for is a list of names, as ['ryw', 'mr'], and not %r" % (asks,))
-        if not set(asks) <= set(ASKS):
+        said = None if asks is None else frozenset(asks)
+        if said is not None and not said <= set(ASKS):
             raise BadRequest("%r isn't of %s" % (asks, ", ".join(ASKS)))
         found = None if key is None else Key(key)
         self.links = [None if address is None else Link(address, timeout, found, server) for server, address in enumerate(addresses)]
-        self.asks = frozenset(asks)
-        self.number = _integer(number, 0, SESSIONS - 1) if number is not None else random.SystemRandom().randint(0, SESSIONS - 1)
+        self.asks = said or frozenset()
+        if number is None:
+            number = random.SystemRandom().randint(0, SESSIONS - 1) if state is None else 0
+        self.number = _integer(number, 0, SESSIONS - 1)
         self.run = _integer(run, 1, MAX_NUMBER) if run is not None else random.SystemRandom().randint(1, MAX_NUMBER)
         self.place = 0
         self.has_read, self.has_written = _ZERO, _ZERO
         # What the server of the last read held.
         self.seen = None
-        # The last Write, where it may still be asked again: its server, its request and its need.
+        # The last Write, where it may still be asked again: its server, its tag and its program's bytes.
         self.pending = None
+        # What was listed last of each prefix of which changes were asked for.
+        self.listed = {}
+        self.state = None if state is None else _State(state, found)
+        kept = None if self.state is None else self.state.kept(self.number)
+        if kept is not None:
+            self._go_on(kept, said)
+
+    def _go_on(self, kept, said):
+        """Goes on from where the session was kept. What is said that it asks for is to be what it asked for then."""
+        _, self.asks, self.place, self.has_read, self.has_written, self.pending = kept
+        if said not in (None, self.asks):
+            self.state.close()
+            raise BadRequest("the session there asks for %s, and not for %s" % tuple(",".join(sorted(asks)) or "none" for asks in (self.asks, said)))
+        if self.pending is not None:
+            self.run = self.pending[1][1]
+
+    def _keep(self):
+        """Keeps the session as it is, where a file keeps it."""
+        if self.state is None:
+            return
+        flags = bytes(name in self.asks for name in ASKS)
+        server, request = b"\0", b""
+        if self.pending is not None:
+            at, tag, body = self.pending
+            server, request = bytes([1, at]), _frame(_WRITE, struct.pack(">BII", *tag) + _vector(_ZERO) + body)
+        vectors = _frame(_OFFER, _vector(self.has_read)) + _frame(_OFFER, _vector(self.has_written))
+        self.state.keep(bytes([1, self.number]) + flags + struct.pack(">I", self.place) + server + vectors + request)
+
+    @contextlib.contextmanager
+    def _kept(self):
+        """Keeps the session as it was told before anybody hears of it, also where it was told nothing."""
+        try:
+            yield
+        finally:
+            self._keep()
 
     def close(self) -> None:
         for link in self.links:
             if link is not None:
                 link.close()
+        if self.state is not None:
+            self.state.close()
 
-    def __enter__(self):
+    def __enter__(self) -> "Session":
         return self
 
-    def __exit__(self, *_):
+    def __exit__(self, *_: Any) -> None:
         self.close()
 
     def need(self, of_reads: str, of_writes: str) -> Vector:
         """What a server has to hold, for these guarantees of what was read and of what was written."""
         read = self.has_read if of_reads in self.asks else _ZERO
         written = self.has_written if of_writes in self.asks else _ZERO
-        return tuple(map(max, read, written))
+        return _join(read, written)
 
     def _link(self, server):
         if not 0 <= server < len(self.links) or self.links[server] is None:
@@ -547,6 +989,8 @@ class Session:
         return self.links[server]
 
     def _begin(self):
+        if self.state is not None:
+            self.state.check()
         if self.place == MAX_NUMBER:
             raise BayouError("the session has no place left")
         self.place += 1
@@ -558,20 +1002,23 @@ class Session:
         request = _frame(_READ, _vector(need) + _key(key))
         link = self._link(server)
         self._begin()
-        _, (value, vector) = link.ask(request, _SEEN)
+        with self._kept():
+            _, (value, vector) = link.ask(request, _SEEN)
+            self._saw(vector, need)
+        return value
+
+    def _saw(self, vector, need):
+        """A read was served by a server that held this, and had to hold that."""
         if not all(has >= wants for has, wants in zip(vector, need)):
             raise Lost("a read of less than was needed")
-        self.has_read, self.seen = tuple(map(max, self.has_read, vector)), vector
-        return value
+        self.has_read, self.seen = _join(self.has_read, vector), vector
 
     def write(self, program: Program, server: int = 0) -> Accepted:
         """Has the program accepted as a Write at that server. Behind `Lost`, and behind a refusal, `again` asks for the same Write."""
-        need = self.need("wfr", "mw")
         body = program_bytes(program)
         self._link(server)
         self._begin()
-        tag = struct.pack(">BII", self.number, self.run, self.place)
-        self.pending = (server, _frame(_WRITE, tag + _vector(need) + body), need)
+        self.pending = (server, (self.number, self.run, self.place), body)
         return self.again()
 
     def again(self) -> Accepted:
@@ -579,15 +1026,131 @@ class Session:
         wasn't told as accepted, and nothing else asked since."""
         if self.pending is None:
             raise BayouError("there is no Write to ask again")
-        server, request, need = self.pending
-        _, accepted = self._link(server).ask(request, _ACCEPTED)
+        server, tag, body = self.pending
+        # Nothing was read or written since, so that it needs what it needed.
+        need = self.need("wfr", "mw")
+        request = _frame(_WRITE, struct.pack(">BII", *tag) + _vector(need) + body)
+        link = self._link(server)
+        self._keep()
+        with self._kept():
+            _, accepted = link.ask(request, _ACCEPTED)
+            self._wrote(accepted, server, need)
+        return accepted
+
+    def _wrote(self, accepted, server, need):
+        """A Write was accepted, by what was to be this server, which had to hold that."""
         if accepted.origin != server or not all(has >= wants for has, wants in zip(accepted.deps, need)):
             raise Lost("a Write of another server, or before less than was needed")
         written = list(self.has_written)
         written[server] = max(written[server], accepted.seq)
         self.has_written = tuple(written)
         self.pending = None
-        return accepted
+
+    def list(self, prefix: str = "", server: int = 0) -> Listing:
+        """What the keys have at that server that begin so, as the session's reads have it. It comes in pages, each of which is a read of the session. Where
+        the database changes meanwhile it is begun anew, twice at the most."""
+        return self._list(prefix, server, None)
+
+    def _list(self, prefix, server, known):
+        """A listing; the one that is known, where the server holds what that is of, since what it holds says what keys have."""
+        need = self.need("mr", "ryw")
+        _key(prefix, 0)
+        with self._kept():
+            for is_last in (False, False, True):
+                listing = self._listed(prefix, server, need, is_last, known)
+                if not listing.is_mixed:
+                    break
+                need = _join(need, listing.vector)
+        return listing
+
+    def _listed(self, prefix, server, need, is_last, known):
+        """A listing. Where it is mixed it ends there, unless it is the last one."""
+        listing = Listing()
+        for vector, rows in self._pages(prefix, server, need):
+            if not listing and known is not None and not known.is_mixed and known.vector == vector:
+                return known
+            listing.is_mixed = listing.is_mixed or (bool(listing) and listing.vector != vector)
+            listing.vector = vector
+            if listing.is_mixed and not is_last:
+                break
+            listing.update(rows)
+            _none_unless(len(listing) <= _MAX_ROWS)
+        return listing
+
+    def _pages(self, prefix, server, need):
+        """The vector and the rows of each page, of a server that holds what it held at the page before."""
+        after, more = "", True
+        while more:
+            vector, more, rows = self._page(prefix, after, server, need)
+            yield vector, rows
+            need, after = _join(need, vector), rows[-1][0] if more else ""
+
+    def _page(self, prefix, after, server, need):
+        request = _frame(_LIST, _vector(need) + _key(prefix, 0) + _key(after, 0) + struct.pack(">H", _PAGE_ROWS))
+        link = self._link(server)
+        self._begin()
+        vector, more, rows = link.look(request, _LISTED)
+        keys = [key for key, _ in rows]
+        _none_unless(all(before < key for before, key in zip([after] + keys, keys)))
+        _none_unless(all(key.startswith(prefix) for key in keys))
+        _none_unless(len(keys) == _PAGE_ROWS or not more)
+        self._saw(vector, need)
+        return vector, more, rows
+
+    def changes(self, prefix: str = "", server: int = 0) -> Changes:
+        """What changed since the last call for that prefix of what the keys have that begin so, by a listing of that server; all at the first call."""
+        return self._changed(prefix, self._list(prefix, server, self.listed.get(prefix)))
+
+    def _changed(self, prefix, listing):
+        before = self.listed.get(prefix, {})
+        rows = {key: listing.get(key) for key in sorted({*before, *listing}) if before.get(key) != listing.get(key)}
+        self.listed[prefix] = listing
+        return Changes(rows, listing.vector, listing.is_mixed)
+
+    def outcome(self, accepted: Union[Accepted, Tuple[int, int]], server: Optional[int] = None) -> Optional[Outcome]:
+        """What became of a Write, which was accepted or has this name, at that server, or else at the one that accepted it: None where it isn't held. It is
+        a read of the session. Another server may tell something else, and so may the same one later: the order of Writes is tentative."""
+        origin, seq = _name(accepted)
+        need = self.need("mr", "ryw")
+        request = _frame(_BECAME, _vector(need) + struct.pack(">BI", origin, seq))
+        link = self._link(origin if server is None else server)
+        self._begin()
+        with self._kept():
+            vector, outcome = link.look(request, _OUTCOME)
+            _none_unless((outcome is None) == (vector[origin] < seq))
+            _none_unless(outcome is None or seq <= outcome.clock)
+            if outcome is not None and isinstance(accepted, Accepted) and outcome.clock != accepted.clock:
+                raise Lost("what became of another Write of this name")
+            self._saw(vector, need)
+        return outcome
+
+    def claim(self, keys: Sequence[str], value: Value, server: int = 0) -> Optional[str]:
+        """Has the first of up to five keys that is absent get the value, by a Write at that server, and tells which one got it there; None where each has
+        something else. Where one has the value already, that one is told, and nothing is written. What is told is tentative, as each outcome is. Where it
+        fails, and there is a Write to ask again, ask `again`; then the same claim tells what it got."""
+        return self._claim(keys, value, lambda key: self.read(key, server), lambda program: self.write(program, server))
+
+    def _claim(self, keys, value, read, write):
+        program = _claiming(keys, value)
+        program_bytes(program)
+        for key in keys:
+            if read(key) == value:
+                return key
+        return self._claimed(keys, value, write(program))
+
+    def _claimed(self, keys, value, accepted):
+        """Which of the keys the claim got that was accepted. At an older server it is the first that has the value."""
+        try:
+            outcome = self.outcome(accepted)
+        except Older:
+            return next((key for key in keys if self.read(key, accepted.origin) == value), None)
+        if outcome is None:
+            raise Lost("a Write isn't held where it was accepted")
+        if outcome.became == "none":
+            return None
+        at = outcome.alternative or 0
+        _none_unless(at < len(keys))
+        return keys[at]
 
     def read_anywhere(self, key: str) -> Optional[Value]:
         """What the key has at the first server that is reached and holds what the session needs. A read changes nothing, so that it goes on to the
@@ -597,6 +1160,20 @@ class Session:
     def write_anywhere(self, program: Program) -> Accepted:
         """Has the program accepted at the first server that takes it. It goes on to the next one only where nothing can have been done."""
         return self._anywhere(lambda server: self.write(program, server), is_read=False)
+
+    def list_anywhere(self, prefix: str = "") -> Listing:
+        """What the keys have that begin so, at the first server that is reached, holds what the session needs, and knows listings."""
+        return self._anywhere(lambda server: self.list(prefix, server), is_read=True)
+
+    def changes_anywhere(self, prefix: str = "") -> Changes:
+        """What changed of them since the last call for that prefix, by a listing of such a server."""
+        known = self.listed.get(prefix)
+        return self._changed(prefix, self._anywhere(lambda server: self._list(prefix, server, known), is_read=True))
+
+    def claim_anywhere(self, keys: Sequence[str], value: Value) -> Optional[str]:
+        """A claim of which each read, and then the Write, is made at the first server that serves it. The server that accepted it says which key got the
+        value."""
+        return self._claim(keys, value, self.read_anywhere, self.write_anywhere)
 
     def _anywhere(self, ask, is_read):
         fault = Away("no server has an address")
@@ -608,6 +1185,6 @@ class Session:
                 if not is_read:
                     raise
                 fault = doubt
-            except (Away, Refused) as refused:
+            except (Away, Older, Refused) as refused:
                 fault = refused
         raise fault

@@ -70,9 +70,6 @@ pub const READ_BYTES: usize = 8_192;
 /// time; their Writes lie beside the bytes until they are taken, so that fewer cost less memory.
 pub const PULL_BYTES: usize = 1_048_576;
 
-/// How many Writes a node takes at the most before its lock is free again: each is synced under the lock.
-pub const TAKES_AT_ONCE: u32 = 64;
-
 /// How many bytes of lines are written at once at the most, but for a line that is longer.
 pub const PIECE_BYTES: usize = 65_536;
 

@@ -1,3 +1,4 @@
 pub mod Ending
 pub mod Growing
+pub mod Looked
 pub mod Operated

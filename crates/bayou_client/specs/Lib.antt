@@ -1,4 +1,5 @@
 pub mod Exchange
 pub mod Inner
+pub mod Lookups
 pub mod Operating
 pub mod Replies

@@ -38,8 +38,8 @@ pub struct Heard<A> {
 /// A session, and the Write that it may ask again, if there is one.
 #[derive(Drop)]
 pub struct Asker {
-    session: Session,
-    asked: Option<Asked>,
+    pub(crate) session: Session,
+    pub(crate) asked: Option<Asked>,
 }
 
 impl Model for Asker {
@@ -83,8 +83,13 @@ fn place_of(session: &Session) -> u32
     session.past().begun
 }
 
-// The entry of that, if there is one, at the place that the session began last.
-fn entry_of(session: &Session, place: u32, server: ServerId, what: Option<What>) -> Option<Entry>
+/// The entry of that, if there is one, at the place that the session began last.
+pub(crate) fn entry_of(
+    session: &Session,
+    place: u32,
+    server: ServerId,
+    what: Option<What>,
+) -> Option<Entry>
     requires { (place ≡ session.now.begun) × (0 < place) }
     ensures { IsEntered session.now server what result }
 {

@@ -9,6 +9,9 @@
 //! or a read or another Write is begun. A [`Client`] is an asker with its share of the book, which claims a slip for each operation and spends it
 //! on what is to be entered.
 //!
+//! Beside reads of one key an asker asks for rows of a database, and what became of a Write, over a link on which nothing else was asked: that is a
+//! read too, and is entered as one.
+//!
 //! A caller owes that the session has a place left, that session and share name one session, that there is something to ask again where it
 //! is asked again, and that each link leads to the server that it is for: for what is asked again, the one that the asker names. Servers may
 //! send any bytes: what is no reply to the request is a bad frame. It isn't promised that a server did anything, nor, where a reply is lost, that
@@ -20,6 +23,7 @@ pub mod client;
 pub mod fault;
 mod judging;
 pub mod link;
+pub mod lookup;
 mod reading;
 
 pub use asker::{Asked, Asker, Heard};

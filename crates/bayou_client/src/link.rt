@@ -18,14 +18,14 @@ use bayou_wire::{Frame, encode_frame};
 use std::alloc::Global;
 use std::io::{Read, Write};
 
-// What a read reads that asks for a vector alone.
-const ANY_KEY: &str = "a";
+/// What a read reads that asks for a vector alone.
+pub(crate) const ANY_KEY: &str = "a";
 
 /// A connection to one server, open until no whole reply came to a request. All its requests together have the turns of one channel.
 #[derive(Drop)]
 pub struct Link<R, W> {
-    channel: CountedChannel<R, W>,
-    is_closed: bool,
+    pub(crate) channel: CountedChannel<R, W>,
+    pub(crate) is_closed: bool,
 }
 
 // Sends the request, and reads its whole reply. The link is closed as sending begins.
@@ -51,8 +51,8 @@ fn exchange<R: Read, W: Write>(
     Ok(reply)
 }
 
-// Whether the server's answer was received.
-fn is_answered<A>(told: &Result<A, LinkFault>) -> bool
+/// Whether the server's answer was received.
+pub(crate) fn is_answered<A>(told: &Result<A, LinkFault>) -> bool
     ensures { Opens told.now result }
 {
     match told {

@@ -4,19 +4,20 @@ use Rattle.bayou_base.specs.declared.session.SessionId.{SessionId}
 use Rattle.bayou_connect.specs.Anywhere.{AsksAnywhere, AsksAt}
 use Rattle.bayou_connect.specs.Operating.{is_read}
 use Rattle.bayou_connect.specs.Round.{AsksInRounds, turns_but_last}
+use Rattle.bayou_connect.specs.Silence.{silent_at}
 use Rattle.bayou_connect.specs.declared.asking.Attempt.{Attempt}
 use Rattle.bayou_connect.specs.declared.store.Store.{Store}
 use Rattle.bayou_connect.specs.declared.told.Told.{Told}
 
-pub asked_anywhere : {E : Type 0} (who : SessionId) (attempt : Attempt) (first rounds : ℕ) (reads : Bool) (order : List ℕ) (silent : List Bool) (old new : Store) (result : Result Told E) → reads ≡ is_read attempt
-    → order ≡ turns_but_last silent first (vec_len old.accesses) → IfOk result (AsksInRounds (AsksAt who attempt) reads order rounds old new) → IfOk result (AsksAnywhere who attempt first rounds old new)
-asked_anywhere {E} who attempt first rounds reads order silent old new (Ok told) same is asked =
+pub asked_anywhere : {E : Type 0} (who : SessionId) (attempt : Attempt) (first rounds : ℕ) (reads : Bool) (order : List ℕ) (now : ℕ) (old new : Store) (result : Result Told E) → reads ≡ is_read attempt
+    → order ≡ turns_but_last (silent_at now old.accesses.items) first (vec_len old.accesses) → IfOk result (AsksInRounds (AsksAt who attempt) reads order rounds old new) → IfOk result (AsksAnywhere who attempt first rounds old new)
+asked_anywhere {E} who attempt first rounds reads order now old new (Ok told) same is asked =
     inr (
-      silent,
+      now,
       subst (λ (o : List ℕ). AsksInRounds (AsksAt who attempt) (is_read attempt) o rounds old new told) is
           (subst (λ (r : Bool). AsksInRounds (AsksAt who attempt) r order rounds old new told) same asked),
     )
-asked_anywhere {E} who attempt first rounds reads order silent old new (Err fault) same is asked = tt
+asked_anywhere {E} who attempt first rounds reads order now old new (Err fault) same is asked = tt
 
 -- what follows where it went well
 pub then_ok : {A E : Type 0} (result : Result A E) (P Q : Type 0) → OnOk result P → (P → Q) → OnOk result Q

@@ -1,3 +1,4 @@
+pub mod Flat
 pub mod Going
 pub mod Kept
 pub mod Least
@@ -5,9 +6,7 @@ pub mod Naming
 pub mod Opening
 pub mod Picking
 pub mod Rounding
-pub mod Rows
 pub mod Serving
 pub mod Telling
 pub mod Turns
-pub mod Written
 pub mod Zipped

@@ -31,6 +31,8 @@ goes_once_more {S} asks is_read order more at now next new answer later result w
 later_holds : (P : Told → Type 0) (before answer : Told) → P before → P answer → P (after_refusal before answer)
 later_holds P before told.Away had has = had
 later_holds P before (told.Seen seen) had has = has
+later_holds P before (told.Rows page) had has = has
+later_holds P before (told.Fate fate) had has = has
 later_holds P before (told.Accepted accepted) had has = has
 later_holds P before (told.Refused fault) had has = has
 later_holds P before told.Lost had has = has

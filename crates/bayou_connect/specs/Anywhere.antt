@@ -1,10 +1,11 @@
 -- A session's operation at the servers of a store: this project's own.
-use Rattle.std.specs.Prelude.{◌≡◌, ◌⊎◌, ◌≤◌, ℕ, Bool, List, IsSomeAnd, slice_get, vec_len}
+use Rattle.std.specs.Prelude.{◌≡◌, ◌⊎◌, ◌≤◌, ℕ, IsSomeAnd, slice_get, vec_len}
 use Rattle.bayou_base.specs.declared.server.ServerId.{ServerId}
 use Rattle.bayou_base.specs.declared.session.SessionId.{SessionId}
 use Rattle.bayou_connect.specs.Keeping.{HasAsked}
 use Rattle.bayou_connect.specs.Operating.{is_read}
 use Rattle.bayou_connect.specs.Round.{AsksInRounds, turns_but_last}
+use Rattle.bayou_connect.specs.Silence.{silent_at}
 use Rattle.bayou_connect.specs.declared.asking.Attempt.{Attempt}
 use Rattle.bayou_connect.specs.declared.store.Store.{Store}
 use Rattle.bayou_connect.specs.declared.told.Told.{Told}
@@ -19,8 +20,9 @@ abbrev pub AsksServer : SessionId → ServerId → Attempt → (old new : Store)
 AsksServer who server attempt old new told =
     (at : ℕ) × IsSomeAnd (slice_get old.accesses.items at) (λ access. access.place.id ≡ server) × AsksAt who attempt old at new told
 
--- at all servers in turn, from that place on, some of them last, which were silent, and round again so often; where there is no such place, none is asked
+-- at all servers in turn, from that place on, those last that count as silent as it begins, and round again so often; where there is no such place, none is
+-- asked
 abbrev pub AsksAnywhere : SessionId → Attempt → (first rounds : ℕ) → (old new : Store) → Told → Type 0
 AsksAnywhere who attempt first rounds old new told =
     ((vec_len old.accesses ≤ first) × (new ≡ old) × (told ≡ Away))
-    ⊎ ((silent : List Bool) × AsksInRounds (AsksAt who attempt) (is_read attempt) (turns_but_last silent first (vec_len old.accesses)) rounds old new told)
+    ⊎ ((now : ℕ) × AsksInRounds (AsksAt who attempt) (is_read attempt) (turns_but_last (silent_at now old.accesses.items) first (vec_len old.accesses)) rounds old new told)

@@ -1,10 +1,13 @@
 pub mod Anew
 pub mod Anywhere
+pub mod Faults
+pub mod Filing
+pub mod Found
 pub mod Keeping
-pub mod Listing
 pub mod Operating
 pub mod Plans
 pub mod Printing
 pub mod Round
 pub mod Sessions
+pub mod Silence
 pub mod Speaking

@@ -7,6 +7,9 @@ use Rattle.bayou_connect.specs.Plans.{asks_said}
 use Rattle.bayou_connect.specs.declared.told.Told.{Told}
 use Rattle.bayou_connect.specs.declared.told.Told.TheVariants as told
 use Rattle.bayou_print.specs.Connected.{away_text}
+use Rattle.bayou_wire.specs.declared.lookup.Became.{Became}
+use Rattle.bayou_wire.specs.declared.lookup.Became.TheVariants.{Updated, Merged, Nothing}
+use Rattle.bayou_wire.specs.declared.lookup.Placed.{Placed}
 use Rattle.bayou_print.specs.Printed.{last_text}
 
 -- the line of what an operation was told, of which the key is one if it is a read
@@ -14,6 +17,8 @@ abbrev pub told_text : (servers : ℕ) → SessionId → (key : Option (List ℕ
 told_text servers who key told.Away = away_text who.index
 told_text servers who (Some key) (told.Seen seen) = last_text servers (answers.Read who key seen)
 told_text servers who None (told.Seen seen) = last_text servers (answers.Lost who)
+told_text servers who key (told.Rows page) = last_text servers (answers.Lost who)
+told_text servers who key (told.Fate fate) = last_text servers (answers.Lost who)
 told_text servers who key (told.Accepted accepted) = last_text servers (answers.Wrote who accepted)
 told_text servers who key (told.Refused fault) = last_text servers (answers.Refused who fault)
 told_text servers who key told.Lost = last_text servers (answers.Lost who)
@@ -22,6 +27,8 @@ told_text servers who key told.Lost = last_text servers (answers.Lost who)
 abbrev pub is_service : Told → Bool
 is_service told.Away = false
 is_service (told.Seen seen) = true
+is_service (told.Rows page) = true
+is_service (told.Fate fate) = true
 is_service (told.Accepted accepted) = true
 is_service (told.Refused fault) = false
 is_service told.Lost = false
@@ -30,6 +37,17 @@ is_service told.Lost = false
 abbrev pub IsAsksLine : SessionId → Asks → List ℕ → Type 0
 IsAsksLine who asks line =
     (words : List ℕ) × (asks_said words ≡ Some asks) × (line ≡ codes "session " ++ (decimal who.index ++ (codes " asks " ++ (words ++ codes "\n"))))
+
+-- an update or an alternative was applied
+abbrev pub was_applied : Became → Bool
+was_applied Updated = true
+was_applied (Merged alternative) = true
+was_applied Nothing = false
+
+-- a Write changes something, as far as is known
+abbrev pub changes_something : Option Placed → Bool
+changes_something None = true
+changes_something (Some placed) = was_applied placed.became
 
 -- the line of a Write that did nothing
 abbrev pub nothing_text : SessionId → List ℕ

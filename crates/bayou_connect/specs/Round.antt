@@ -10,6 +10,8 @@ use Rattle.bayou_base.specs.declared.refusal.Refusal.TheVariants as refusals
 abbrev pub may_ask_another : (is_read : Bool) → Told → Bool
 may_ask_another is_read told.Away = true
 may_ask_another is_read (told.Seen seen) = false
+may_ask_another is_read (told.Rows page) = false
+may_ask_another is_read (told.Fate fate) = false
 may_ask_another is_read (told.Accepted accepted) = false
 may_ask_another is_read (told.Refused refusals.Journal) = is_read
 may_ask_another is_read (told.Refused _) = true
@@ -19,6 +21,8 @@ may_ask_another is_read told.Lost = is_read
 abbrev pub after_refusal : (before told : Told) → Told
 after_refusal before told.Away = before
 after_refusal before (told.Seen seen) = told.Seen seen
+after_refusal before (told.Rows page) = told.Rows page
+after_refusal before (told.Fate fate) = told.Fate fate
 after_refusal before (told.Accepted accepted) = told.Accepted accepted
 after_refusal before (told.Refused fault) = told.Refused fault
 after_refusal before told.Lost = told.Lost

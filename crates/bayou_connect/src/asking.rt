@@ -3,14 +3,16 @@ ghost use Rattle.std.specs.Prelude.{◌≡◌, ◌<◌, IfOk, IsSome, OnOk};
 ghost use Rattle.bayou_base.specs.declared.limits.TheConstants.{MAX_PLACES};
 ghost use Rattle.bayou_client.specs.Operating.{Asking, begins_read, heard_by, told_accepted, told_seen};
 ghost use Rattle.bayou_connect.specs.Keeping.{IsKeptLast, IsReady};
-ghost use Rattle.bayou_connect.specs.Operating.{HasDone, IsNoService, TellsRead, TellsWrite, is_read as reads, sent_again};
+ghost use Rattle.bayou_connect.specs.Operating.{HasDone, IsNoService, TellsFate, TellsRead, TellsRows, TellsWrite, is_read as reads, purpose_of, sent_again, told_fate, told_rows};
 
 use crate::fault::ConnectFault;
+use crate::reach::Purpose;
 use crate::remembering::StateFile;
 use crate::told::Told;
-use bayou_base::{Accepted, Entry, Key, Refusal, Seen, ServerId};
+use bayou_base::{Accepted, Entry, Key, Seen, ServerId, Vector, Wid};
 use bayou_client::{Asker, Heard, Link, LinkFault};
 use bayou_lang::RestingProgram;
+use bayou_wire::{Fate, FateAsked, Page, RowsAsked};
 use std::alloc::{AllocError, Global};
 use std::io::{Read, Write};
 
@@ -18,9 +20,29 @@ use std::io::{Read, Write};
 #[derive(Drop)]
 pub enum Attempt {
     Read(Key),
+    /// Rows, which are read too.
+    List(RowsAsked),
+    /// What became of this Write, which is read too.
+    Became(Wid),
     Write(RestingProgram),
     /// The Write that may be asked again.
     Again,
+}
+
+// What is asked of rows, once more.
+fn copy_of(asked: &RowsAsked) -> RowsAsked
+    ensures { result ≡ asked.now }
+{
+    let after = match &asked.after {
+        Some(key) => Some(key.copy()),
+        None => None,
+    };
+    RowsAsked {
+        need: asked.need,
+        prefix: asked.prefix.copy(),
+        after,
+        most: asked.most,
+    }
 }
 
 impl Attempt {
@@ -30,6 +52,8 @@ impl Attempt {
     {
         match self {
             Attempt::Read(key) => Ok(Attempt::Read(key.copy())),
+            Attempt::List(asked) => Ok(Attempt::List(copy_of(asked))),
+            Attempt::Became(wid) => Ok(Attempt::Became(*wid)),
             Attempt::Write(program) => Ok(Attempt::Write(program.copy(alloc)?)),
             Attempt::Again => Ok(Attempt::Again),
         }
@@ -39,7 +63,20 @@ impl Attempt {
     pub(crate) fn is_read(&self) -> bool
         ensures { result ≡ reads self.now }
     {
-        matches!(self, Attempt::Read(_))
+        matches!(
+            self,
+            Attempt::Read(_) | Attempt::List(_) | Attempt::Became(_)
+        )
+    }
+
+    /// For which connection it is.
+    pub(crate) fn purpose(&self) -> Purpose
+        ensures { result ≡ purpose_of self.now }
+    {
+        match self {
+            Attempt::List(_) | Attempt::Became(_) => Purpose::Lookups,
+            Attempt::Read(_) | Attempt::Write(_) | Attempt::Again => Purpose::Requests,
+        }
     }
 }
 
@@ -68,6 +105,40 @@ fn done_by_read(heard: Heard<Seen>) -> Done
     match told {
         Ok(seen) => Done {
             told: Told::Seen(seen),
+            entry,
+        },
+        Err(fault) => Done {
+            told: unserved(fault),
+            entry,
+        },
+    }
+}
+
+// What a session is told that has heard this of rows.
+fn done_by_rows(heard: Heard<Page>) -> Done
+    ensures { (begun : Asking) → TellsRows begun (heard_by told_rows begun heard.told) result.told }
+{
+    let Heard { told, entry } = heard;
+    match told {
+        Ok(page) => Done {
+            told: Told::Rows(page),
+            entry,
+        },
+        Err(fault) => Done {
+            told: unserved(fault),
+            entry,
+        },
+    }
+}
+
+// What a session is told that has heard this of what became of a Write.
+fn done_by_fate(heard: Heard<Fate>) -> Done
+    ensures { (begun : Asking) → TellsFate begun (heard_by told_fate begun heard.told) result.told }
+{
+    let Heard { told, entry } = heard;
+    match told {
+        Ok(fate) => Done {
+            told: Told::Fate(fate),
             entry,
         },
         Err(fault) => Done {
@@ -165,6 +236,44 @@ fn read<R: Read, W: Write>(
     tell(alloc, state, asker, done)
 }
 
+// Asks for rows at this server, which the link goes to.
+fn list<R: Read, W: Write>(
+    alloc: Global,
+    state: &mut Option<StateFile>,
+    asker: &mut Asker,
+    link: &mut Link<R, W>,
+    server: ServerId,
+    asked: &RowsAsked,
+) -> Result<Done, ConnectFault>
+    requires { asker.old.session.begun < MAX_PLACES }
+    ensures told { IfOk result (λ done. TellsRows (begins_read asker.old) asker.new done.told) }
+    ensures kept { OnOk result (IsKeptLast state.new asker.new) }
+{
+    let done = done_by_rows(asker.list(alloc, link, server, asked));
+    tell(alloc, state, asker, done)
+}
+
+// Asks what became of the Write at this server, which the link goes to.
+fn became<R: Read, W: Write>(
+    alloc: Global,
+    state: &mut Option<StateFile>,
+    asker: &mut Asker,
+    link: &mut Link<R, W>,
+    server: ServerId,
+    wid: Wid,
+) -> Result<Done, ConnectFault>
+    requires { asker.old.session.begun < MAX_PLACES }
+    ensures told { IfOk result (λ done. TellsFate (begins_read asker.old) asker.new done.told) }
+    ensures kept { OnOk result (IsKeptLast state.new asker.new) }
+{
+    let asked = FateAsked {
+        need: Vector::zero(),
+        wid,
+    };
+    let done = done_by_fate(asker.became(alloc, link, server, &asked));
+    tell(alloc, state, asker, done)
+}
+
 // Asks the Write once more that may be asked again, if there is one, over a link that goes to its server.
 fn again<R: Read, W: Write>(
     alloc: Global,
@@ -203,6 +312,8 @@ pub(crate) fn operate<R: Read, W: Write>(
 {
     match attempt {
         Attempt::Read(key) => read(alloc, state, asker, link, server, &key),
+        Attempt::List(asked) => list(alloc, state, asker, link, server, &asked),
+        Attempt::Became(wid) => became(alloc, state, asker, link, server, wid),
         Attempt::Write(program) => {
             asker.ask(server, program);
             write(alloc, state, asker, link)

@@ -1,6 +1,11 @@
 //! The file of the book: what was accepted and read, as lines of an audit file.
-ghost use Rattle.std.specs.Prelude.{◌<◌, ◌≤◌};
+ghost use Rattle.std.specs.Prelude.{◌≡◌, ◌<◌, ◌≤◌, IfErr, IfOk, OnOk};
+ghost use Rattle.std.specs.Io.KnownBytes.{Appends};
 ghost use Rattle.bayou_base.specs.declared.limits.TheConstants.{SERVERS as NUMBER};
+ghost use Rattle.bayou_connect.specs.Faults.{IsBookFault};
+ghost use Rattle.bayou_connect.specs.Filing.{AreWholeLines};
+ghost use Rattle.bayou_connect.specs.declared.fault.ConnectFault.TheVariants.{Book};
+ghost use Rattle.bayou_print.specs.Booked.{entry_said, held_text, line_text};
 
 use crate::fault::ConnectFault;
 use bayou_base::{Entry, ServerId};
@@ -19,11 +24,16 @@ pub(crate) struct AuditFile {
 }
 
 // How many bytes of the text are whole lines.
-fn whole_lines(text: &[u8]) -> usize {
-    match text.iter().rposition(|byte| *byte == b'\n') {
-        Some(at) => at + 1,
-        None => 0,
+fn whole_lines(text: &[u8]) -> usize
+    ensures { AreWholeLines text.now result }
+{
+    let mut whole = 0;
+    for at in 0..text.len() {
+        if text[at] == b'\n' {
+            whole = at + 1;
+        }
     }
+    whole
 }
 
 // Gives the file its first line, where it is empty, or sees that it has it, and cuts off a line that was torn. Whether that could be done.
@@ -39,6 +49,48 @@ fn begin(file: &mut File, alloc: Global, first: &[u8]) -> bool {
     text.starts_with(first) && (whole == text.len() || file.set_len(whole as u64).is_ok())
 }
 
+// Puts the line at the end.
+fn put<W: Write>(file: &mut W, line: &str) -> Result<(), ConnectFault>
+    ensures put { OnOk result (Appends (W.contents file.old) (W.contents file.new) line.now) }
+    ensures fault { IfErr result (λ fault. fault ≡ Book) }
+{
+    match file.write_all(line.as_bytes()) {
+        Ok(()) => Ok(()),
+        Err(_) => Err(ConnectFault::Book),
+    }
+}
+
+// Puts the line of an entry at the end.
+fn put_entry<W: Write>(
+    file: &mut W,
+    alloc: Global,
+    entries: Entries,
+    entry: &Entry,
+) -> Result<(), ConnectFault>
+    ensures put { OnOk result (Appends (W.contents file.old) (W.contents file.new) (line_text (entry_said entries.count entry.now))) }
+    ensures fault { IfErr result IsBookFault }
+{
+    let line = entries.line(alloc, entry)?;
+    put(file, line.as_str())
+}
+
+// Puts the lines of what a server holds at the end.
+fn put_writes<W: Write>(
+    file: &mut W,
+    alloc: Global,
+    holding: Holding,
+    writes: &[RestingWrite],
+) -> Result<(), ConnectFault>
+    ensures put { OnOk result (Appends (W.contents file.old) (W.contents file.new) (held_text holding.count holding.server.index writes.now)) }
+    ensures fault { IfErr result IsBookFault }
+{
+    for write in writes {
+        let line = holding.line(alloc, write)?;
+        put(file, line.as_str())?;
+    }
+    Ok(())
+}
+
 impl AuditFile {
     /// The file of this name, which is made where it isn't there, and locked as long as it is used. One that is there has to be of as many
     /// servers.
@@ -49,6 +101,8 @@ impl AuditFile {
         count: u8,
     ) -> Result<Self, ConnectFault>
         requires { (0 < count) × (count ≤ NUMBER) }
+        ensures count { IfOk result (λ file. file.count ≡ count) }
+        ensures fault { IfErr result IsBookFault }
     {
         let first = servers_line(alloc, count)?;
         let mut options = OpenOptions::new();
@@ -64,17 +118,13 @@ impl AuditFile {
         Ok(AuditFile { file, count })
     }
 
-    fn put(&mut self, line: &str) -> Result<(), ConnectFault> {
-        match self.file.write_all(line.as_bytes()) {
-            Ok(()) => Ok(()),
-            Err(_) => Err(ConnectFault::Book),
-        }
-    }
-
     /// Puts an entry at its end.
-    pub(crate) fn enter(&mut self, alloc: Global, entry: &Entry) -> Result<(), ConnectFault> {
-        let line = Entries { count: self.count }.line(alloc, entry)?;
-        self.put(line.as_str())
+    pub(crate) fn enter(&mut self, alloc: Global, entry: &Entry) -> Result<(), ConnectFault>
+        ensures same { self.new.count ≡ self.old.count }
+        ensures fault { IfErr result IsBookFault }
+    {
+        let entries = Entries { count: self.count };
+        put_entry(&mut self.file, alloc, entries, entry)
     }
 
     /// Puts what the server holds at its end.
@@ -83,15 +133,14 @@ impl AuditFile {
         alloc: Global,
         server: ServerId,
         writes: &[RestingWrite],
-    ) -> Result<(), ConnectFault> {
+    ) -> Result<(), ConnectFault>
+        ensures same { self.new.count ≡ self.old.count }
+        ensures fault { IfErr result IsBookFault }
+    {
         let holding = Holding {
             server,
             count: self.count,
         };
-        for write in writes {
-            let line = holding.line(alloc, write)?;
-            self.put(line.as_str())?;
-        }
-        Ok(())
+        put_writes(&mut self.file, alloc, holding, writes)
     }
 }

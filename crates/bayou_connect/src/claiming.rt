@@ -35,7 +35,12 @@ fn is_other(told: &Told, value: &Value) -> bool
 {
     match told {
         Told::Seen(seen) => seen.value.as_ref() != Some(value),
-        Told::Away | Told::Accepted(_) | Told::Refused(_) | Told::Lost => false,
+        Told::Away
+        | Told::Rows(_)
+        | Told::Fate(_)
+        | Told::Accepted(_)
+        | Told::Refused(_)
+        | Told::Lost => false,
     }
 }
 
@@ -102,8 +107,8 @@ impl Desk {
         Ok(is_other)
     }
 
-    // Prints what became of a claim, by the server that accepted it: what each key has, up to the first that has the value; and that it did nothing,
-    // where each has another.
+    // Prints what a claim came to, by the server that accepted it: what each key has, up to the first that has the value; and that it did nothing,
+    // where each has another and it wasn't told before what became of it.
     fn tell_claim<W: Write, T: Files<File = File> + Sockets + Wait + Clock>(
         &mut self,
         rt: &T,
@@ -111,6 +116,7 @@ impl Desk {
         who: SessionId,
         at: usize,
         claim: Claim<'_>,
+        is_told: bool,
     ) -> Result<(), ConnectFault> {
         if !self.tell_key(rt, output, who, at, claim.key, claim.value)? {
             return Ok(());
@@ -119,6 +125,9 @@ impl Desk {
             if !self.tell_key(rt, output, who, at, key, claim.value)? {
                 return Ok(());
             }
+        }
+        if is_told {
+            return Ok(());
         }
         self.tell_nothing(output, who)
     }
@@ -135,14 +144,15 @@ impl Desk {
         if !self.are_free(rt, output, who, claim)? {
             return Ok(());
         }
-        match self.write(rt, output, who, program)? {
-            Some(at) => self.tell_claim(rt, output, who, at, claim),
-            None => Ok(()),
-        }
+        let Some(made) = self.write(rt, output, who, program)? else {
+            return Ok(());
+        };
+        let placed = self.tell_outcome(rt, output, who, made)?;
+        self.tell_claim(rt, output, who, made.at, claim, placed.is_some())
     }
 
-    /// An addition to the key's number, which this program makes; and that it did nothing, where the key has a text at the server that accepted it.
-    /// That is looked up for nobody: the session has read nothing by it.
+    /// An addition to the key's number, which this program makes; and that it did nothing, where it isn't known what became of it and the key has a text
+    /// at the server that accepted it. That is looked up for nobody: the session has read nothing by it.
     pub(crate) fn add<W: Write, T: Files<File = File> + Sockets + Wait + Clock>(
         &mut self,
         rt: &T,
@@ -151,10 +161,13 @@ impl Desk {
         key: &Key,
         program: RestingProgram,
     ) -> Result<(), ConnectFault> {
-        let Some(at) = self.write(rt, output, who, program)? else {
+        let Some(made) = self.write(rt, output, who, program)? else {
             return Ok(());
         };
-        match self.store.look_at(rt, at, key)? {
+        if self.tell_outcome(rt, output, who, made)?.is_some() {
+            return Ok(());
+        }
+        match self.store.look_at(rt, made.at, key)? {
             Some(
                 Seen {
                     value: Some(Value::Text(_)),

@@ -16,7 +16,7 @@ use crate::saying::{nothing_line, told_line};
 use crate::store::Store;
 use crate::told::Told;
 use bayou_answers::Answer;
-use bayou_base::{Asks, Key, SESSIONS, ServerId, SessionId};
+use bayou_base::{Asks, Key, SESSIONS, ServerId, SessionId, Wid};
 use bayou_lang::RestingProgram;
 use bayou_net::Sockets;
 use bayou_print::{last_line, write_text};
@@ -54,6 +54,13 @@ pub(crate) struct Desk {
     pub(crate) ghost runs: { 0 < run },
 }
 
+/// A Write that was accepted: by the server of which place in the list, and its name.
+#[derive(Clone, Copy, Debug, PartialEq, Eq)]
+pub(crate) struct Made {
+    pub(crate) at: usize,
+    pub(crate) wid: Wid,
+}
+
 /// The number that a session has in tags and in the book, where session 0 has this one first: it is so many further on, and 0 comes after the last.
 pub(crate) fn numbered(first: SessionId, who: SessionId) -> SessionId
     ensures { IsNumbered first who result }
@@ -89,7 +96,10 @@ impl Desk {
         ensures served { self.new.is_served ≡ (self.old.is_served && is_service told) }
         ensures same { self.new.store ≡ self.old.store }
     {
-        if !matches!(told, Told::Seen(_) | Told::Accepted(_)) {
+        if !matches!(
+            told,
+            Told::Seen(_) | Told::Rows(_) | Told::Fate(_) | Told::Accepted(_)
+        ) {
             self.is_served = false;
         }
         let line = told_line(self.alloc, self.servers, who, key, told)?;
@@ -181,6 +191,12 @@ impl Desk {
         }
     }
 
+    // The Write of this name, where its server is at hand.
+    fn made_of(&self, wid: Wid) -> Option<Made> {
+        let at = self.store.place_of(wid.origin)?;
+        Some(Made { at, wid })
+    }
+
     // Opens the session, unless a line did so before.
     fn open(&mut self, who: SessionId, asks: Asks) -> bool
         ensures first { IsTrue result ↔ (slice_get self.old.opened who.index ≡ Some false) }
@@ -238,24 +254,24 @@ impl Desk {
         self.finish(output, who, &Some(key), told)
     }
 
-    /// A session's Write, at any server: which one accepted it, by its place in the list, if one did.
+    /// A session's Write, at any server: as what it was accepted, if it was.
     pub(crate) fn write<W: Write, T: Files<File = File> + Sockets + Wait + Clock>(
         &mut self,
         rt: &T,
         output: &mut Output<W>,
         who: SessionId,
         program: RestingProgram,
-    ) -> Result<Option<usize>, ConnectFault>
+    ) -> Result<Option<Made>, ConnectFault>
         ensures { OnOk result ((told : Answered) × AsksAnywhere who (attempts.Write program) self.old.first self.old.rounds self.old.store self.new.store told
             × TakesBytes (account W.contents output.old) (account W.contents output.new) (told_text self.old.servers who None told)) }
     {
         let attempt = Attempt::Write(program);
         let told = anywhere(rt, &mut self.store, who, &attempt, self.first, self.rounds)?;
-        let at = match &told {
-            Told::Accepted(accepted) => self.store.place_of(accepted.wid.origin),
+        let made = match &told {
+            Told::Accepted(accepted) => self.made_of(accepted.wid),
             _ => None,
         };
         self.finish(output, who, &None, told)?;
-        Ok(at)
+        Ok(made)
     }
 }

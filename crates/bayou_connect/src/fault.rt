@@ -46,8 +46,13 @@ pub enum ConnectFault {
 }
 
 impl ConnectFault {
+    ghost use Rattle.std.specs.Prelude.{◌≡◌};
+    ghost use Rattle.bayou_connect.specs.Faults.{is_of_book as of_book, is_of_lines as of_lines, is_of_state as of_state};
+
     /// Whether it is the state file's, so that this is to be named.
-    pub fn is_of_state(self) -> bool {
+    pub fn is_of_state(self) -> bool
+        ensures { result ≡ of_state self }
+    {
         match self {
             ConnectFault::StateNotOpened
             | ConnectFault::NotAState
@@ -66,12 +71,16 @@ impl ConnectFault {
     }
 
     /// Whether it is the book's, so that its file is to be named.
-    pub fn is_of_book(self) -> bool {
+    pub fn is_of_book(self) -> bool
+        ensures { result ≡ of_book self }
+    {
         matches!(self, ConnectFault::BookNotOpened | ConnectFault::Book)
     }
 
     /// Whether it is that of the file of lines, so that this is to be named.
-    pub fn is_of_lines(self) -> bool {
+    pub fn is_of_lines(self) -> bool
+        ensures { result ≡ of_lines self }
+    {
         matches!(self, ConnectFault::LinesNotOpened)
     }
 }
@@ -99,6 +108,11 @@ impl<T: Drop> From<AllocFailed<T>> for ConnectFault {
 }
 
 impl From<LabelFault> for ConnectFault {
+    ghost use Rattle.std.specs.Prelude.{◌≡◌};
+    ghost use Rattle.bayou_connect.specs.Faults.{labelled_as};
+
+    ghost from_gives = { λ fault told. told ≡ labelled_as fault };
+
     fn from(fault: LabelFault) -> ConnectFault {
         match fault {
             LabelFault::OtherStore(name) => ConnectFault::OtherStore(name),
@@ -109,6 +123,11 @@ impl From<LabelFault> for ConnectFault {
 }
 
 impl From<LineFault> for ConnectFault {
+    ghost use Rattle.std.specs.Prelude.{◌≡◌};
+    ghost use Rattle.bayou_connect.specs.Faults.{unread_as};
+
+    ghost from_gives = { λ fault told. told ≡ unread_as fault };
+
     fn from(fault: LineFault) -> ConnectFault {
         match fault {
             LineFault::Input => ConnectFault::Input,
@@ -118,6 +137,11 @@ impl From<LineFault> for ConnectFault {
 }
 
 impl From<RunFault> for ConnectFault {
+    ghost use Rattle.std.specs.Prelude.{◌≡◌};
+    ghost use Rattle.bayou_connect.specs.Faults.{unprinted_as};
+
+    ghost from_gives = { λ fault told. told ≡ unprinted_as fault };
+
     fn from(fault: RunFault) -> ConnectFault {
         match fault {
             RunFault::Memory => ConnectFault::Memory,

@@ -6,10 +6,11 @@ pub(crate) const HELP: &str =
 add K N            adds N to the number of K; where K has no value it becomes N
 del K              K has no value from then on
 claim K1 [K2..] V  sets the first of these keys that has no value to V, unless one has V already; up to four behind K1
-get K              reads K
+get K1 [K2..]      reads these keys; up to four behind K1
 again              asks the last Write once more, where its reply was lost or it was refused
 at I               server I is the first to be asked from here on
-list               each key that has a value, and that value
+list [P]           each key that has a value, or each that begins with P, and that value, in the order of their bytes
+became I:N         what became of Write N of server I: its update, an alternative, or nothing was applied
 servers            each server, and what it holds, or that it is away
 session            what the session asks for, and what it read and wrote
 dump               puts what each server holds into the book, once, at the end

@@ -1,23 +1,15 @@
 //! What is asked of servers beside a session's operations.
 ghost use Rattle.std.specs.Prelude.{◌≡◌};
 ghost use Rattle.bayou_connect.specs.Operating.{recovery_told};
-ghost use Rattle.bayou_connect.specs.Sessions.{kept_of, need_of as needed};
 
-use crate::anywhere::{Listed, listed_anywhere};
 use crate::desk::{Desk, OWN, print};
 use crate::fault::ConnectFault;
-use crate::listing::rows_of;
 use crate::saying::asks_line;
-use crate::told::Told;
 use bayou_answers::{Answer, Recovery};
-use bayou_base::{ServerId, SessionId, Vector, Wid};
+use bayou_base::{ServerId, Wid};
 use bayou_client::LinkFault;
-use bayou_lang::RestingWrite;
 use bayou_net::Sockets;
-use bayou_print::{
-    LIST_LOST, REOPEN_AWAY, dumped_line, last_line, listed_keys_line, row_line, seat_line,
-    server_line,
-};
+use bayou_print::{REOPEN_AWAY, dumped_line, last_line, seat_line, server_line};
 use bayou_streams::Output;
 use std::io::Write;
 use std::sync::Wait;
@@ -99,67 +91,6 @@ impl Desk {
         let past = session.past();
         let line = seat_line(self.alloc, OWN, self.servers, &past.reads, &past.writes)?;
         print(output, line.as_str())
-    }
-
-    // What a server has to hold that may serve the session a read.
-    fn need_of(&self, who: SessionId) -> Vector
-        ensures { result ≡ needed (kept_of self.now.store.sessions.items who) }
-    {
-        match self.store.session(who) {
-            Some(kept) => kept.session().need_read(),
-            None => Vector::zero(),
-        }
-    }
-
-    // Prints that no server is listed.
-    fn tell_list_lost<W: Write>(&mut self, output: &mut Output<W>) -> Result<(), ConnectFault> {
-        self.is_served = false;
-        print(output, LIST_LOST)
-    }
-
-    // Prints what the server of this place in the list sent: each key that has a value, in order, and how many there are. Where no server holds just
-    // what it sent, none of that is believed.
-    fn print_rows<W: Write>(
-        &mut self,
-        output: &mut Output<W>,
-        at: usize,
-        writes: Vec<RestingWrite>,
-    ) -> Result<(), ConnectFault> {
-        let Some(rows) = rows_of(self.alloc, writes)? else {
-            return self.tell_list_lost(output);
-        };
-        for row in &rows {
-            let line = row_line(self.alloc, &row.key, &row.value)?;
-            print(output, line.as_str())?;
-        }
-        let Some(server) = self.store.server_at(at) else {
-            return Ok(());
-        };
-        let line = listed_keys_line(self.alloc, server, rows.len())?;
-        print(output, line.as_str())
-    }
-
-    /// Prints the database of the first server that holds what a read of the session needs: each key that has a value, in order, and how many
-    /// there are.
-    pub(crate) fn list<W: Write, T: Sockets + Wait + Clock>(
-        &mut self,
-        rt: &T,
-        output: &mut Output<W>,
-        who: SessionId,
-    ) -> Result<(), ConnectFault> {
-        let need = self.need_of(who);
-        let Listed { at, told, writes } = listed_anywhere(
-            rt,
-            &mut self.store,
-            &need,
-            self.first,
-            self.rounds,
-        )?;
-        match told {
-            Told::Seen(_) => self.print_rows(output, at, writes),
-            Told::Refused(_) => self.finish(output, who, &None, told),
-            Told::Away | Told::Accepted(_) | Told::Lost => self.tell_list_lost(output),
-        }
     }
 
     /// Puts what each server holds into the book. Whether there is one.

@@ -22,6 +22,7 @@ mod help;
 mod inquiring;
 mod lines;
 mod listing;
+mod outcome;
 pub mod plan;
 mod reach;
 mod remembering;

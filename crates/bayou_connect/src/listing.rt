@@ -1,142 +1,254 @@
-//! What a server holds, as a database: the Writes that it sends, in a log of their own (Terry et al. 1995).
-ghost use Rattle.std.specs.Prelude.{◌≡◌, [], ◌∷◌, ◌++◌, ◌<◌, ◌⊎◌, ℕ, All, Contains, IfOk, IfSome, List, MatchOption, OnOk, length, map};
-ghost use Rattle.std.specs.List.{flat_map};
-ghost use Rattle.bayou_base.specs.declared.limits.TheConstants.{MAX_WRITES as MOST, SERVERS as NUMBER};
-ghost use Rattle.bayou_connect.specs.Listing.{AreRowsOf, HasRows, IsRow, keys_written};
-ghost use Rattle.bayou_lang.specs.Changes.{op_key, program_writes};
-ghost use Rattle.bayou_lang.specs.Writes.{AreFitting};
-ghost use Rattle.bayou_log.specs.Replay.{replay};
+//! Rows of a database, which a server tells page after page.
+ghost use Rattle.std.specs.Prelude.{◌≡◌, [], ◌++◌, IfOk, MatchOption, OnOk, option_copied};
 
-use bayou_base::{Key, MAX_WRITES, SERVERS, Value};
-use bayou_lang::{Op, RestingAlt, RestingProgram, RestingWrite};
-use bayou_log::WriteLog;
+use crate::anywhere::anywhere;
+use crate::asking::Attempt;
+use crate::desk::{Desk, print};
+use crate::fault::ConnectFault;
+use crate::told::Told;
+use bayou_base::{Key, MAX_OPS, MAX_WRITES, Prefix, SessionId, Value, Vector};
+use bayou_net::Sockets;
+use bayou_print::{LIST_LOST, row_line, rows_line};
+use bayou_streams::Output;
+use bayou_wire::layout::ROWS_AT_ONCE;
+use bayou_wire::{Page, RowsAsked};
 use std::alloc::{AllocError, Global};
+use std::fs::{File, Files};
+use std::io::Write;
+use std::sync::Wait;
+use std::time::Clock;
 
-/// A key, and its value.
+/// How often a list is begun anew whose pages are of several databases.
+const TIMES_ANEW: u32 = 2;
+
+/// How many pages a list has at the most: each but the last is full, and each Write changes at most so many keys.
+const MAX_PAGES: usize = MAX_WRITES as usize * MAX_OPS / ROWS_AT_ONCE + 1;
+
+/// What was told of rows.
 #[derive(Drop)]
-pub(crate) struct Row {
-    pub(crate) key: Key,
-    pub(crate) value: Option<Value>,
+pub(crate) struct Rows {
+    each: Vec<(Key, Value)>,
+    /// What the server held that told the last of them.
+    vector: Vector,
+    /// Whether some of them were told by what held less.
+    is_mixed: bool,
 }
 
-fn key_of(op: &Op) -> &Key
-    ensures { result.now ≡ op_key op.now }
+/// How a list goes on.
+#[derive(Drop)]
+enum Paged {
+    /// All rows were told.
+    Whole,
+    /// The next are of another database than those before.
+    Changed,
+    /// The next weren't told.
+    Untold(Told),
+}
+
+// Whether the rows begin so, and come one after another behind this key, if there is one.
+fn follow(prefix: &Prefix, after: Option<&Key>, rows: &[(Key, Value)]) -> bool {
+    let mut last = after;
+    for row in rows {
+        let comes_after = match last {
+            Some(last) => *last < row.0,
+            None => true,
+        };
+        if !comes_after || !row.0.as_str().starts_with(prefix.as_str()) {
+            return false;
+        }
+        last = Some(&row.0);
+    }
+    true
+}
+
+// The rows that are asked for: those behind this key, if there is one, of what holds this.
+fn asked(prefix: &Prefix, need: Vector, after: Option<Key>) -> RowsAsked
+    ensures { (result.need ≡ need) × (result.prefix ≡ prefix.now) × (result.after ≡ after) }
 {
-    match op {
-        Op::Put(key, _) => key,
-        Op::Del(key) => key,
+    RowsAsked {
+        need,
+        prefix: prefix.copy(),
+        after,
+        most: ROWS_AT_ONCE as u16,
     }
 }
 
-// Puts the keys that these ops change behind the others.
-fn add_keys(keys: &mut Vec<Key>, ops: &[Op]) -> Result<(), AllocError>
-    ensures { OnOk result (keys.new.items ≡ keys.old.items ++ map op_key ops.now) }
+// Puts these rows behind the others.
+fn add_rows(each: &mut Vec<(Key, Value)>, rows: &[(Key, Value)]) -> Result<(), AllocError>
+    ensures { OnOk result (each.new.items ≡ each.old.items ++ rows.now) }
 {
-    for op in ops {
-        keys.push(key_of(op).copy())?;
+    for row in rows {
+        each.push((row.0.copy(), row.1.copy()))?;
     }
     Ok(())
 }
 
-// Puts the keys that these alternatives may change behind the others.
-fn add_keys_of_all(keys: &mut Vec<Key>, alternatives: &[RestingAlt]) -> Result<(), AllocError>
-    ensures { OnOk result (keys.new.items ≡ keys.old.items ++ flat_map (λ alt. map op_key alt.ops.items) alternatives.now) }
-{
-    for alternative in alternatives {
-        add_keys(keys, alternative.ops())?;
+impl Rows {
+    // None are told yet.
+    fn none(alloc: Global) -> Self
+        ensures { result.each.items ≡ [] }
+    {
+        Rows {
+            each: Vec::new(alloc),
+            vector: Vector::zero(),
+            is_mixed: false,
+        }
     }
-    Ok(())
-}
 
-// Puts the keys that the program may change behind the others.
-fn add_keys_of(keys: &mut Vec<Key>, program: &RestingProgram) -> Result<(), AllocError>
-    ensures { OnOk result (keys.new.items ≡ keys.old.items ++ program_writes program.now) }
-{
-    add_keys(keys, program.update())?;
-    add_keys_of_all(keys, program.merge())
-}
-
-// The keys that the Writes may change, one behind another.
-fn all_keys_of(alloc: Global, writes: &[RestingWrite]) -> Result<Vec<Key>, AllocError>
-    ensures { IfOk result (λ keys. keys.items ≡ keys_written writes.now) }
-{
-    let mut keys = Vec::new(alloc);
-    for write in writes {
-        add_keys_of(&mut keys, write.program())?;
+    // The last key that was told.
+    fn last_key(&self) -> Option<Key> {
+        match self.each.last() {
+            Some(row) => Some(row.0.copy()),
+            None => None,
+        }
     }
-    Ok(keys)
-}
 
-// The keys that the Writes may change, each once, in order.
-fn keys_of(alloc: Global, writes: &[RestingWrite]) -> Result<Vec<Key>, AllocError>
-    ensures { IfOk result (λ keys. (key : List ℕ) → Contains (keys_written writes.now) key → Contains keys.items key) }
-{
-    let mut keys = all_keys_of(alloc, writes)?;
-    keys.sort_unstable();
-    keys.dedup();
-    Ok(keys)
-}
+    // Forgets what was told, but for what is held.
+    fn begin_anew(&mut self)
+        ensures { (self.new.each.items ≡ []) × (self.new.vector ≡ self.old.vector) }
+    {
+        self.each.clear();
+        self.is_mixed = false;
+    }
 
-// A log of these Writes, unless one of them doesn't fit those before it, or they are too many: then no server holds just these.
-fn log_of(alloc: Global, writes: Vec<RestingWrite>) -> Result<Option<WriteLog>, AllocError>
-    ensures { IfOk result (λ log. MatchOption log ((MOST < length writes.items) ⊎ (¬ (AreFitting NUMBER writes.items)))
-        (λ log. (log.receipts ≡ writes.items) × (log.waiting ≡ 0))) }
-{
-    let mut log = WriteLog::new(alloc, SERVERS as u8, MAX_WRITES);
-    for write in writes {
-        if log.is_full() {
+    // Puts the rows of a page behind the others, and tells whether more are left; or nothing where they don't follow those, or there was room for more:
+    // then what came is none that was asked for.
+    fn add(&mut self, prefix: &Prefix, page: Page) -> Result<Option<bool>, AllocError>
+        ensures { IfOk result (λ more. MatchOption more (self.new ≡ self.old)
+            (λ more. (self.new.each.items ≡ self.old.each.items ++ page.rows.items) × (self.new.vector ≡ page.vector) × (more ≡ page.more))) }
+    {
+        let rows = page.rows.as_slice();
+        let last = self.last_key();
+        if !follow(prefix, last.as_ref(), rows) || (rows.len() < ROWS_AT_ONCE && page.more) {
             return Ok(None);
         }
-        let Ok(()) = log.fits(&write) else {
-            return Ok(None);
-        };
-        log.reserve(&write)?;
-        log.place(write);
+        add_rows(&mut self.each, rows)?;
+        self.vector = page.vector;
+        Ok(Some(page.more))
     }
-    log.catch_up();
-    Ok(Some(log))
 }
 
-// Puts a row of the key behind the others, where it has a value.
-fn add_row(rows: &mut Vec<Row>, log: &WriteLog, key: &Key) -> Result<(), AllocError>
-    requires { log.now.waiting ≡ 0 }
-    ensures each { OnOk result (All (IsRow (replay log.now.receipts)) rows.old.items → All (IsRow (replay log.now.receipts)) rows.new.items) }
-    ensures whole { OnOk result ((before : List (List ℕ)) → HasRows (replay log.now.receipts) before rows.old.items → HasRows (replay log.now.receipts) (before ++ key.now ∷ []) rows.new.items) }
-{
-    let Some(value) = log.get(key) else {
-        return Ok(());
-    };
-    rows.push(Row {
-        key: key.copy(),
-        value: Some(value),
-    })?;
-    Ok(())
-}
-
-// Those of the keys that have a value, each with it.
-fn listed(alloc: Global, log: &WriteLog, keys: &[Key]) -> Result<Vec<Row>, AllocError>
-    requires { log.now.waiting ≡ 0 }
-    ensures each { IfOk result (λ rows. All (IsRow (replay log.now.receipts)) rows.items) }
-    ensures whole { IfOk result (λ rows. HasRows (replay log.now.receipts) keys.now rows.items) }
-{
-    let mut rows = Vec::new(alloc);
-    for key in keys {
-        add_row(&mut rows, log, key)?;
+impl Desk {
+    // Asks for the rows behind those that were told, of the server that told them: up to the last, or to one of another database, unless they may be
+    // mixed.
+    fn list_on<T: Files<File = File> + Sockets + Wait + Clock>(
+        &mut self,
+        rt: &T,
+        who: SessionId,
+        prefix: &Prefix,
+        first: Page,
+        may_mix: bool,
+        rows: &mut Rows,
+    ) -> Result<Paged, ConnectFault> {
+        let at = self.store.asked_last();
+        let mut more = rows.add(prefix, first)?;
+        for _ in 0..=MAX_PAGES {
+            match more {
+                None => return Ok(Paged::Untold(Told::Lost)),
+                Some(false) => return Ok(Paged::Whole),
+                Some(true) => {}
+            }
+            let next = Attempt::List(asked(prefix, rows.vector, rows.last_key()));
+            let page = match self.store.ask_at(rt, who, at, next)? {
+                Told::Rows(page) => page,
+                told => return Ok(Paged::Untold(told)),
+            };
+            if page.vector != rows.vector {
+                if !may_mix {
+                    return Ok(Paged::Changed);
+                }
+                rows.is_mixed = true;
+            }
+            more = rows.add(prefix, page)?;
+        }
+        Ok(Paged::Untold(Told::Lost))
     }
-    Ok(rows)
+
+    // The rows whose keys begin so, of one database, unless it is another again and again: then of several, each of which had what the session asks for;
+    // or why they weren't told.
+    fn rows_of<T: Files<File = File> + Sockets + Wait + Clock>(
+        &mut self,
+        rt: &T,
+        who: SessionId,
+        prefix: &Prefix,
+    ) -> Result<Result<Rows, Told>, ConnectFault> {
+        let mut rows = Rows::none(self.alloc);
+        for time in 0..=TIMES_ANEW {
+            rows.begin_anew();
+            let attempt = Attempt::List(asked(prefix, rows.vector, None));
+            let told = anywhere(rt, &mut self.store, who, &attempt, self.first, self.rounds)?;
+            let Told::Rows(first) = told else {
+                return Ok(Err(told));
+            };
+            match self.list_on(rt, who, prefix, first, time == TIMES_ANEW, &mut rows)? {
+                Paged::Whole => return Ok(Ok(rows)),
+                Paged::Changed => {}
+                Paged::Untold(told) => return Ok(Err(told)),
+            }
+        }
+        Ok(Err(Told::Lost))
+    }
+
+    // Prints the rows, and behind them how many there are and what was held.
+    fn print_rows<W: Write>(
+        &mut self,
+        output: &mut Output<W>,
+        prefix: Option<&Key>,
+        rows: Rows,
+    ) -> Result<(), ConnectFault> {
+        let Rows {
+            each,
+            vector,
+            is_mixed,
+        } = rows;
+        for row in &each {
+            let line = row_line(self.alloc, &row.0, &Some(row.1.copy()))?;
+            print(output, line.as_str())?;
+        }
+        let line = rows_line(
+            self.alloc,
+            prefix,
+            each.len(),
+            is_mixed,
+            self.servers,
+            &vector,
+        )?;
+        print(output, line.as_str())
+    }
+
+    /// Prints each key that begins so, or each where nothing is named, with its value, in order, under what the session asks for; and how many there
+    /// are.
+    pub(crate) fn list<W: Write, T: Files<File = File> + Sockets + Wait + Clock>(
+        &mut self,
+        rt: &T,
+        output: &mut Output<W>,
+        who: SessionId,
+        prefix: Option<&Key>,
+    ) -> Result<(), ConnectFault> {
+        let begins = prefix_of(prefix);
+        match self.rows_of(rt, who, &begins)? {
+            Ok(rows) => self.print_rows(output, prefix, rows),
+            Err(Told::Refused(refusal)) => {
+                self.finish(output, who, &None, Told::Refused(refusal))
+            }
+            Err(_) => {
+                self.is_served = false;
+                print(output, LIST_LOST)
+            }
+        }
+    }
 }
 
-/// The keys that have a value once these Writes are applied, each with it, in order; or none, where no server holds just these Writes.
-pub(crate) fn rows_of(
-    alloc: Global,
-    writes: Vec<RestingWrite>,
-) -> Result<Option<Vec<Row>>, AllocError>
-    ensures { IfOk result (λ listed. MatchOption listed ((MOST < length writes.items) ⊎ (¬ (AreFitting NUMBER writes.items)))
-        (λ rows. AreRowsOf writes.items rows.items)) }
+// What keys begin with that begin like this one, or all keys.
+fn prefix_of(named: Option<&Key>) -> Prefix
+    ensures { MatchOption (option_copied named.entry) (result ≡ []) (λ key. result ≡ key) }
 {
-    let keys = keys_of(alloc, &writes)?;
-    let Some(log) = log_of(alloc, writes)? else {
-        return Ok(None);
+    let text = match named {
+        Some(key) => key.as_str(),
+        None => "",
     };
-    Ok(Some(listed(alloc, &log, &keys)?))
+    let Ok(prefix) = Prefix::new(text) else {
+        unreachable!();
+    };
+    prefix
 }

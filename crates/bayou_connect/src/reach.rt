@@ -1,5 +1,6 @@
 //! Links to servers, which are opened as they are needed.
-ghost use Rattle.std.specs.Prelude.{◌≡◌, ◌<◌, ◌↔◌, None, false, if◌then◌else◌, true};
+ghost use Rattle.bayou_connect.specs.Silence.{stream_for};
+ghost use Rattle.std.specs.Prelude.{◌≡◌, ◌+◌, ◌-◌, ◌^◌, ◌<◌, IfOk, IfSome, IsSome, None, Some, false, if◌then◌else◌, min, nat_le, nat_lt};
 
 use crate::deadline::{Deadline, milliseconds};
 use crate::plan::Place;
@@ -34,7 +35,10 @@ pub(crate) struct Timed<'a, C> {
 
 impl<C: Clock> Timed<'_, C> {
     // What is left of the time.
-    fn left(&self) -> io::Result<Option<Duration>> {
+    fn left(&self) -> io::Result<Option<Duration>>
+        // Without a time a call at the socket would wait for ever.
+        ensures { IfOk result IsSome }
+    {
         match self.deadline.left(milliseconds(self.clock)) {
             Some(left) => Ok(Some(Duration::from_millis(left))),
             None => Err(io::Error::from(ErrorKind::TimedOut)),
@@ -79,7 +83,10 @@ pub(crate) struct Greeter {
 
 impl Greeter {
     // How it greets that server.
-    fn hello(&mut self, server: ServerId) -> Hello {
+    fn hello(&mut self, server: ServerId) -> Hello
+        ensures asks { (result.version ≡ GREETING_VERSION) × (result.asked ≡ Some server) × (result.from ≡ None) × (result.servers ≡ self.old.servers) }
+        ensures counted { self.new ≡ record self.old { greetings = min (self.old.greetings + 1) (2 ^ 32 - 1) } }
+    {
         self.greetings = self.greetings.saturating_add(1);
         let mut nonce = [0; NONCE_BYTES];
         nonce[..DRAWN_BYTES].copy_from_slice(&self.drawn);
@@ -94,14 +101,22 @@ impl Greeter {
     }
 }
 
+/// What a connection to a server is for: what is asked beside one key comes before all else over a connection, and so has one of its own.
+#[derive(Clone, Copy, Debug, PartialEq, Eq)]
+pub(crate) enum Purpose {
+    Requests,
+    Lookups,
+}
+
 /// A link over a socket, for one request: it and its whole reply have so much time.
 pub(crate) type SocketLink<'a, T> = Link<Timed<'a, T>, Timed<'a, T>>;
 
-/// A server, with a connection to it where one is open: one over which it was greeted, if it knows greetings.
+/// A server, with the connections to it that are open: over each it was greeted, if it knows greetings.
 #[derive(Drop)]
 pub(crate) struct Access {
     pub(crate) place: Place,
-    stream: Option<TcpStream>,
+    requests: Option<TcpStream>,
+    lookups: Option<TcpStream>,
     /// What it told as it was greeted last.
     known: Option<Known>,
     /// Who answered in its place last, if somebody else did; and whether that is still to be told.
@@ -136,7 +151,9 @@ fn stream_to<T: Sockets>(rt: &T, place: Place, left: u64) -> Option<TcpStream> {
 }
 
 // One more end of the connection.
-fn end_of<'a, T>(rt: &'a T, stream: &TcpStream, deadline: Deadline) -> Option<Timed<'a, T>> {
+fn end_of<'a, T>(rt: &'a T, stream: &TcpStream, deadline: Deadline) -> Option<Timed<'a, T>>
+    ensures { IfSome result (λ timed. timed.deadline ≡ deadline) }
+{
     let stream = stream.try_clone().ok()?;
     Some(Timed {
         clock: rt,
@@ -163,7 +180,8 @@ impl Access {
     {
         Access {
             place,
-            stream: None,
+            requests: None,
+            lookups: None,
             known: None,
             stranger: None,
             is_news: false,
@@ -172,8 +190,32 @@ impl Access {
         }
     }
 
-    fn is_open(&self) -> bool {
-        match &self.stream {
+    // The connection for this, if there is one.
+    fn stream(&self, purpose: Purpose) -> &Option<TcpStream>
+        ensures { result.now ≡ stream_for purpose self.now }
+    {
+        match purpose {
+            Purpose::Requests => &self.requests,
+            Purpose::Lookups => &self.lookups,
+        }
+    }
+
+    // Keeps the connection for this, in the place of the one before.
+    fn keep(&mut self, purpose: Purpose, stream: Option<TcpStream>)
+        ensures kept { stream_for purpose self.new ≡ stream }
+        ensures same { self.new.place ≡ self.old.place }
+    {
+        match purpose {
+            Purpose::Requests => self.requests = stream,
+            Purpose::Lookups => self.lookups = stream,
+        }
+    }
+
+    // Whether a connection for this is there that is quiet.
+    fn is_open(&self, purpose: Purpose) -> bool
+        ensures { stream_for purpose self.now ≡ None → result ≡ false }
+    {
+        match self.stream(purpose) {
             Some(stream) => is_quiet(stream),
             None => false,
         }
@@ -181,16 +223,18 @@ impl Access {
 
     /// Whether it counts as silent by now.
     pub(crate) fn is_silent(&self, now: u64) -> bool
-        ensures { result ≡ true ↔ now < self.now.silent_until }
+        ensures { result ≡ nat_lt now self.now.silent_until }
     {
         now < self.silent_until
     }
 
     // Notes that what was asked has no answer: where the time for it is over, the server counts as silent from now on.
     fn fail(&mut self, now: u64)
-        ensures { self.new.place ≡ self.old.place }
+        ensures closed { (self.new.place ≡ self.old.place) × (self.new.requests ≡ None) × (self.new.lookups ≡ None) }
+        ensures silent { self.new.silent_until ≡ (if nat_le self.old.deadline.latest now then min (now + SILENT_MILLISECONDS) (2 ^ 64 - 1) else self.old.silent_until) }
     {
-        self.stream = None;
+        self.requests = None;
+        self.lookups = None;
         if self.deadline.left(now).is_none() {
             self.silent_until = now.saturating_add(SILENT_MILLISECONDS);
         }
@@ -245,8 +289,13 @@ impl Access {
     }
 
     // A connection to the server over which it was greeted. One that ends the connection at that, and again at the next, is taken for an older one: it
-    // is asked all the same, over a connection of its own, where the store is open; one that has a key proves it, or is sent nothing.
-    fn greeted<T: Sockets + Clock>(&mut self, rt: &T, greeter: &mut Greeter) -> Option<TcpStream>
+    // is asked for one key all the same, over a connection of its own, where the store is open; one that has a key proves it, or is sent nothing.
+    fn greeted<T: Sockets + Clock>(
+        &mut self,
+        rt: &T,
+        greeter: &mut Greeter,
+        purpose: Purpose,
+    ) -> Option<TcpStream>
         ensures { self.new.place ≡ self.old.place }
     {
         for _ in 0..OLDER_AFTER {
@@ -257,9 +306,9 @@ impl Access {
             }
         }
         self.meet(Stranger::Older);
-        match &greeter.key {
-            Some(_) => None,
-            None => self.reached(rt),
+        match (&greeter.key, purpose) {
+            (None, Purpose::Requests) => self.reached(rt),
+            (Some(_), _) | (_, Purpose::Lookups) => None,
         }
     }
 
@@ -274,7 +323,7 @@ impl Access {
     pub(crate) fn forget(&mut self)
         ensures { self.new.place ≡ self.old.place }
     {
-        self.stream = None;
+        self.requests = None;
         self.known = None;
     }
 
@@ -293,21 +342,23 @@ impl Access {
         }
     }
 
-    /// A link to the server, on which one request and its reply have so many seconds, the connection too; or none where the server isn't
+    /// A link to the server for this, on which one request and its reply have so many seconds, the connection too; or none where the server isn't
     /// reached, or another answers in its place: then nothing was sent.
     pub(crate) fn link<'a, T: Sockets + Clock>(
         &mut self,
         rt: &'a T,
         greeter: &mut Greeter,
         seconds: u32,
+        purpose: Purpose,
     ) -> Option<SocketLink<'a, T>>
         ensures { self.new.place ≡ self.old.place }
     {
         self.deadline = Deadline::new(milliseconds(rt), seconds);
-        if !self.is_open() {
-            self.stream = self.greeted(rt, greeter);
+        if !self.is_open(purpose) {
+            let stream = self.greeted(rt, greeter, purpose);
+            self.keep(purpose, stream);
         }
-        let Some(stream) = &self.stream else {
+        let Some(stream) = self.stream(purpose) else {
             self.fail(milliseconds(rt));
             return None;
         };

@@ -1,7 +1,9 @@
 //! The file in which sessions are kept.
-ghost use Rattle.std.specs.Prelude.{◌≡◌, ◌<◌, ◌≤◌, ◌++◌, IfOk, List, Ok, OnOk, vec_len};
+ghost use Rattle.std.specs.Prelude.{◌≡◌, ◌<◌, ◌≤◌, ◌++◌, IfErr, IfOk, List, Ok, OnOk, vec_len};
 ghost use Rattle.bayou_base.specs.declared.limits.TheConstants.{MAX_KEPT_ENTRIES as MOST};
 ghost use Rattle.bayou_connect.specs.Anew.{entries_behind, those};
+ghost use Rattle.bayou_connect.specs.Faults.{IsStateFault, forgotten_as, unkept_as};
+ghost use Rattle.bayou_connect.specs.Found.{IsFound};
 ghost use Rattle.bayou_base.specs.declared.limits.TheConstants.{SESSIONS as NUMBER};
 ghost use Rattle.bayou_remember.specs.Memory.{EndsWith, HasAll};
 ghost use Rattle.bayou_client.specs.Operating.{Asking};
@@ -40,7 +42,9 @@ pub(crate) struct StateFile {
 }
 
 // What a state file that can't be used is told as.
-fn fault_of(fault: RememberFault, device: &StateDevice) -> ConnectFault {
+fn fault_of(fault: RememberFault, device: &StateDevice) -> ConnectFault
+    ensures { result ≡ forgotten_as fault device.now.damage }
+{
     match (fault, device.damage()) {
         (RememberFault::Journal(OpenFault::Device), Some(damage)) => ConnectFault::StateDamaged {
             whole: damage.whole,
@@ -56,7 +60,9 @@ fn fault_of(fault: RememberFault, device: &StateDevice) -> ConnectFault {
 }
 
 // What a session that wasn't kept is told as.
-fn fault_of_keeping(fault: KeepFault) -> ConnectFault {
+fn fault_of_keeping(fault: KeepFault) -> ConnectFault
+    ensures { result ≡ unkept_as fault }
+{
     match fault {
         KeepFault::Device | KeepFault::TooLong => ConnectFault::State,
         KeepFault::OutOfMemory => ConnectFault::Memory,
@@ -71,6 +77,9 @@ fn open_at<T: Files<File = File>>(
     run: u32,
 ) -> Result<Remembered, ConnectFault>
     requires { 0 < run }
+    ensures found { IfOk result (λ found. IsFound run found.memory found.all.items) }
+    ensures entry { IfOk result (λ found. found.entry ≡ found.memory.device.entry) }
+    ensures fault { IfErr result IsStateFault }
 {
     let Ok(file) = FileDevice::open(rt, path) else {
         return Err(ConnectFault::StateNotOpened);
@@ -93,6 +102,7 @@ fn keep_each<D: Device>(
 ) -> Result<(), ConnectFault>
     ensures kept { D.is_modelled → OnOk result ((had : List Asking) → HasAll D.Device memory.old had → HasAll D.Device memory.new (had ++ those all.now)) }
     ensures entries { OnOk result (memory.new.entries ≡ entries_behind memory.old.entries (those all.now)) }
+    ensures fault { IfErr result IsStateFault }
 {
     for kept in all {
         if let Some(kept) = kept {
@@ -111,7 +121,8 @@ fn write_part<T: Files<File = File>>(
     part: &str,
     all: &[Option<Asker>],
 ) -> Result<Memory<StateDevice>, ConnectFault>
-    ensures { IfOk result (λ memory. memory.entries ≡ entries_behind 0 (those all.now)) }
+    ensures entries { IfOk result (λ memory. memory.entries ≡ entries_behind 0 (those all.now)) }
+    ensures fault { IfErr result IsStateFault }
 {
     // What an interrupted call left of it.
     let _ = fs::remove_file(rt, part);
@@ -132,6 +143,8 @@ fn write_anew<T: Files<File = File>>(
     all: &[Option<Asker>],
 ) -> Result<Remembered, ConnectFault>
     requires { 0 < run }
+    ensures found { IfOk result (λ found. IsFound run found.memory found.all.items) }
+    ensures fault { IfErr result IsStateFault }
 {
     let part = format!(in alloc; "{path}.part")?;
     let memory = write_part(rt, alloc, part.as_str(), all)?;
@@ -151,6 +164,8 @@ pub(crate) fn remember<T: Files<File = File>>(
     run: u32,
 ) -> Result<Remembered, ConnectFault>
     requires { 0 < run }
+    ensures found { IfOk result (λ found. IsFound run found.memory found.all.items) }
+    ensures fault { IfErr result IsStateFault }
 {
     let remembered = open_at(rt, alloc, path, run)?;
     if remembered.memory.entries() <= MAX_KEPT_ENTRIES {
@@ -171,6 +186,7 @@ impl StateFile {
     /// The state file of this name, which was opened in this run.
     pub(crate) fn new(memory: Memory<StateDevice>, path: String, run: u32) -> Self
         requires { 0 < run }
+        ensures { (result.memory ≡ memory) × (result.path ≡ path) × (result.run ≡ run) }
     {
         StateFile { memory, path, run }
     }

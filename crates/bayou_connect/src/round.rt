@@ -36,7 +36,7 @@ pub(crate) fn may_go_on(is_read: bool, told: &Told) -> bool
         Told::Away => true,
         Told::Refused(Refusal::Journal) | Told::Lost => is_read,
         Told::Refused(_) => true,
-        Told::Seen(_) | Told::Accepted(_) => false,
+        Told::Seen(_) | Told::Rows(_) | Told::Fate(_) | Told::Accepted(_) => false,
     }
 }
 

@@ -25,7 +25,9 @@ fn answer_of(session: SessionId, key: &Option<Key>, told: Told) -> Option<Answer
         }),
         (Told::Accepted(accepted), _) => Some(Answer::Wrote { session, accepted }),
         (Told::Refused(refusal), _) => Some(Answer::Refused { session, refusal }),
-        (Told::Seen(_) | Told::Lost, _) => Some(Answer::Lost { session }),
+        (Told::Seen(_) | Told::Rows(_) | Told::Fate(_) | Told::Lost, _) => {
+            Some(Answer::Lost { session })
+        }
     }
 }
 

@@ -1,7 +1,9 @@
 //! The servers of a store and the sessions of a person there: each operation, with what is kept of it.
-ghost use Rattle.std.specs.Prelude.{◌≡◌, ◌≢◌, ◌<◌, All, IfOk, IsErr, IsSomeAnd, MatchOption, Ok, OnOk, is_some, map, option_map, slice_get, vec_len, Bool, List};
+ghost use Rattle.std.specs.Prelude.{◌≡◌, ◌≢◌, ◌<◌, ℕ, All, IfErr, IfOk, IfSome, IsErr, IsSomeAnd, MatchOption, None, Ok, OnOk, Some, is_some, map, option_map, slice_get, true, vec_len};
 ghost use Rattle.std.specs.Option.{option_copied};
 ghost use Rattle.bayou_base.specs.declared.limits.TheConstants.{SESSIONS as NUMBER};
+ghost use Rattle.bayou_connect.specs.Silence.{silent_at};
+ghost use Rattle.bayou_connect.specs.Faults.{IsBookFault};
 ghost use Rattle.bayou_connect.specs.Keeping.{HasAsked};
 ghost use Rattle.bayou_connect.specs.Round.{turns_but_last};
 ghost use Rattle.bayou_connect.specs.Sessions.{IsOpened, kept_of, opened};
@@ -11,7 +13,7 @@ use crate::audit_file::AuditFile;
 use crate::deadline::milliseconds;
 use crate::fault::ConnectFault;
 use crate::plan::Place;
-use crate::reach::{Access, Greeter};
+use crate::reach::{Access, Greeter, Purpose};
 use crate::remembering::StateFile;
 use crate::round::{but_last, in_turn};
 use crate::told::Told;
@@ -22,6 +24,7 @@ use bayou_lang::RestingWrite;
 use bayou_net::Sockets;
 use bayou_print::Holds;
 use bayou_session::Session;
+use bayou_wire::{Fate, FateAsked};
 use std::alloc::{AllocError, Global};
 use std::fs::{File, Files};
 use std::time::Clock;
@@ -38,6 +41,8 @@ pub(crate) struct Store {
     /// How long a server has for its connection and its whole reply.
     timeout_seconds: u32,
     greeter: Greeter,
+    /// Which server a session asked last, by its place in the list.
+    asked_last: usize,
     ghost one_each: { vec_len sessions ≡ NUMBER },
 }
 
@@ -46,7 +51,10 @@ fn enter(
     alloc: Global,
     book: &mut Option<AuditFile>,
     entry: &Option<Entry>,
-) -> Result<(), ConnectFault> {
+) -> Result<(), ConnectFault>
+    ensures none { book.old ≡ None → (result ≡ Ok tt) × (book.new ≡ None) }
+    ensures fault { IfErr result IsBookFault }
+{
     match (book, entry) {
         (Some(book), Some(entry)) => book.enter(alloc, entry),
         _ => Ok(()),
@@ -112,6 +120,7 @@ impl Store {
             book,
             timeout_seconds,
             greeter,
+            asked_last: 0,
         })
     }
 
@@ -128,18 +137,21 @@ impl Store {
     }
 
     // Whether each server, by its place in the list, counts as silent by now.
-    fn are_silent<T: Clock>(&self, rt: &T) -> Result<Vec<bool>, AllocError> {
+    fn are_silent<T: Clock>(&self, rt: &T) -> Result<Vec<bool>, AllocError>
+        ensures { IfOk result (λ silent. (now : ℕ) × (silent.items ≡ silent_at now self.now.accesses.items)) }
+    {
         let now = milliseconds(rt);
-        self.accesses
-            .iter()
-            .map(|access| access.is_silent(now))
-            .collect(self.alloc)
+        let mut silent = Vec::with_capacity(self.alloc, self.accesses.len())?;
+        for access in &self.accesses {
+            silent.push(access.is_silent(now))?;
+        }
+        Ok(silent)
     }
 
     /// The places of all servers, in the order in which they are asked: from this one on, and those that were silent last.
     pub(crate) fn order<T: Clock>(&self, rt: &T, first: usize) -> Result<Vec<usize>, AllocError>
         requires { first < vec_len self.now.accesses }
-        ensures { IfOk result (λ order. (silent : List Bool) × (order.items ≡ turns_but_last silent first (vec_len self.now.accesses))) }
+        ensures { IfOk result (λ order. (now : ℕ) × (order.items ≡ turns_but_last (silent_at now self.now.accesses.items) first (vec_len self.now.accesses))) }
     {
         let silent = self.are_silent(rt)?;
         let order = in_turn(self.alloc, first, self.accesses.len())?;
@@ -196,12 +208,14 @@ impl Store {
         ensures { IfOk result (λ told. HasAsked self.old.accesses.items at attempt self.old.sessions.items self.new.sessions.items self.new.state who.index told) }
     {
         self.shorten(rt)?;
-        let alloc = self.alloc;
+        self.asked_last = at;
+        let (alloc, purpose) = (self.alloc, attempt.purpose());
         let Some(access) = self.accesses.get_mut(at) else {
             return Ok(Told::Away);
         };
         let server = access.place.id;
-        let Some(mut link) = access.link(rt, &mut self.greeter, self.timeout_seconds) else {
+        let time = self.timeout_seconds;
+        let Some(mut link) = access.link(rt, &mut self.greeter, time, purpose) else {
             return Ok(Told::Away);
         };
         let Some(asker) = &mut self.sessions[usize::from(who.index)] else {
@@ -214,6 +228,13 @@ impl Store {
         access.settle(rt, &link);
         enter(alloc, &mut self.book, &done.entry)?;
         Ok(done.told)
+    }
+
+    /// Which server a session asked last, by its place in the list.
+    pub(crate) fn asked_last(&self) -> usize
+        ensures { result ≡ self.now.asked_last }
+    {
+        self.asked_last
     }
 
     /// Which server is at this place in the list.
@@ -239,7 +260,8 @@ impl Store {
         let Some(access) = self.accesses.get_mut(at) else {
             return Ok(None);
         };
-        let Some(mut link) = access.link(rt, &mut self.greeter, self.timeout_seconds) else {
+        let time = self.timeout_seconds;
+        let Some(mut link) = access.link(rt, &mut self.greeter, time, Purpose::Requests) else {
             return Ok(None);
         };
         let told = link.look(alloc, key);
@@ -247,8 +269,33 @@ impl Store {
         answered(told)
     }
 
+    /// What the server of this place in the list tells of what became of a Write, if it tells it: to who asks of no session.
+    pub(crate) fn fate_at<T: Sockets + Clock>(
+        &mut self,
+        rt: &T,
+        at: usize,
+        wid: Wid,
+    ) -> Result<Option<Fate>, ConnectFault>
+        ensures { (self.new.sessions ≡ self.old.sessions) × (self.new.state ≡ self.old.state) × (self.new.book ≡ self.old.book) }
+    {
+        let (alloc, time) = (self.alloc, self.timeout_seconds);
+        let Some(access) = self.accesses.get_mut(at) else {
+            return Ok(None);
+        };
+        let Some(mut link) = access.link(rt, &mut self.greeter, time, Purpose::Lookups) else {
+            return Ok(None);
+        };
+        let need = Vector::zero();
+        let told = link.became(alloc, FateAsked { need, wid });
+        access.settle(rt, &link);
+        answered(told)
+    }
+
     /// Who answers in the place of the server of this place in the list, and where, if that wasn't told yet.
-    pub(crate) fn news_at(&mut self, at: usize) -> Option<(Place, Stranger)> {
+    pub(crate) fn news_at(&mut self, at: usize) -> Option<(Place, Stranger)>
+        ensures news { IfSome result (λ news. IsSomeAnd (slice_get self.old.accesses.items at) (λ access. (access.is_news ≡ true) × (access.place ≡ news.0) × (access.stranger ≡ Some news.1))) }
+        ensures same { (self.new.sessions ≡ self.old.sessions) × (self.new.state ≡ self.old.state) × (self.new.book ≡ self.old.book) }
+    {
         let access = self.accesses.get_mut(at)?;
         let place = access.place;
         Some((place, access.news()?))
@@ -268,7 +315,8 @@ impl Store {
             return Ok(None);
         };
         access.forget();
-        let Some(mut link) = access.link(rt, &mut self.greeter, self.timeout_seconds) else {
+        let time = self.timeout_seconds;
+        let Some(mut link) = access.link(rt, &mut self.greeter, time, Purpose::Requests) else {
             return Ok(None);
         };
         if let Some(known) = access.known() {
@@ -296,7 +344,8 @@ impl Store {
     {
         let alloc = self.alloc;
         let access = self.accesses.get_mut(at)?;
-        let mut link = access.link(rt, &mut self.greeter, self.timeout_seconds)?;
+        let time = self.timeout_seconds;
+        let mut link = access.link(rt, &mut self.greeter, time, Purpose::Requests)?;
         let told = link.reopen(alloc);
         access.settle(rt, &link);
         Some(told)
@@ -314,7 +363,8 @@ impl Store {
         let Some(access) = self.accesses.get_mut(at) else {
             return Ok(None);
         };
-        let Some(mut link) = access.link(rt, &mut self.greeter, self.timeout_seconds) else {
+        let time = self.timeout_seconds;
+        let Some(mut link) = access.link(rt, &mut self.greeter, time, Purpose::Requests) else {
             return Ok(None);
         };
         let told = link.dump(alloc);
@@ -334,7 +384,11 @@ impl Store {
         &mut self,
         server: ServerId,
         writes: &[RestingWrite],
-    ) -> Result<(), ConnectFault> {
+    ) -> Result<(), ConnectFault>
+        ensures none { self.old.book ≡ None → (result ≡ Ok tt) × (self.new.book ≡ None) }
+        ensures same { (self.new.sessions ≡ self.old.sessions) × (self.new.accesses ≡ self.old.accesses) × (self.new.state ≡ self.old.state) }
+        ensures fault { IfErr result IsBookFault }
+    {
         match &mut self.book {
             Some(book) => book.hold(self.alloc, server, writes),
             None => Ok(()),

@@ -1,5 +1,6 @@
 //! What became of an operation at one server.
 use bayou_base::{Accepted, Refusal, Seen};
+use bayou_wire::{Fate, Page};
 
 /// What became of an operation of a session at one server.
 #[derive(Debug, Drop)]
@@ -8,6 +9,10 @@ pub enum Told {
     Away,
     /// A read was served.
     Seen(Seen),
+    /// Rows were told.
+    Rows(Page),
+    /// It was told what became of a Write.
+    Fate(Fate),
     /// A Write was accepted.
     Accepted(Accepted),
     /// It was refused.

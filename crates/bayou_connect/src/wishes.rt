@@ -2,6 +2,7 @@
 use crate::claiming::Claim;
 use crate::desk::{Desk, OWN};
 use crate::fault::ConnectFault;
+use bayou_base::Key;
 use bayou_net::Sockets;
 use bayou_person::Wish;
 use bayou_streams::Output;
@@ -11,7 +12,7 @@ use std::sync::Wait;
 use std::time::Clock;
 
 impl Desk {
-    // Does what a wish that is a Write asks for, and tells what became of a claim or an addition.
+    // Does what a wish that is a Write asks for, and tells what became of it.
     fn wish_write<W: Write, T: Files<File = File> + Sockets + Wait + Clock>(
         &mut self,
         rt: &T,
@@ -29,10 +30,26 @@ impl Desk {
             }
             Wish::Add { key, .. } => self.add(rt, output, OWN, key, program),
             _ => {
-                let _ = self.write(rt, output, OWN, program)?;
+                let Some(made) = self.write(rt, output, OWN, program)? else {
+                    return Ok(());
+                };
+                self.tell_outcome(rt, output, OWN, made)?;
                 Ok(())
             }
         }
+    }
+
+    // Reads these keys, one after another.
+    fn get_all<W: Write, T: Files<File = File> + Sockets + Wait + Clock>(
+        &mut self,
+        rt: &T,
+        output: &mut Output<W>,
+        keys: &[Key],
+    ) -> Result<(), ConnectFault> {
+        for key in keys {
+            self.get(rt, output, OWN, key.copy())?;
+        }
+        Ok(())
     }
 
     /// Does what a short line asks for. Whether it can be done here.
@@ -43,12 +60,17 @@ impl Desk {
         wish: Wish,
     ) -> Result<bool, ConnectFault> {
         match wish {
-            Wish::Get { key } => self.get(rt, output, OWN, key)?,
+            Wish::Get { key, others } => {
+                self.get(rt, output, OWN, key)?;
+                self.get_all(rt, output, others.as_slice())?;
+            }
             Wish::At(server) => match self.store.place_of(server) {
                 Some(at) => self.first = at,
                 None => return Ok(false),
             },
-            Wish::List => self.list(rt, output, OWN)?,
+            Wish::List => self.list(rt, output, OWN, None)?,
+            Wish::Rows { prefix } => self.list(rt, output, OWN, Some(&prefix))?,
+            Wish::Became(wid) => self.became(rt, output, OWN, wid)?,
             Wish::Servers => self.tell_servers(rt, output)?,
             Wish::Session => self.tell_session(output)?,
             Wish::Dump => return self.dump(rt, output),

@@ -15,7 +15,7 @@ mod sending;
 pub mod server_end;
 
 pub use client_end::{GreetingFault, OLDER_AFTER, greet_server};
-pub use reading::{MAX_GREETING_BYTES, read_greeting};
+pub use reading::{MAX_GREETING_BYTES, read_greeting, read_text};
 pub use server_end::{Guest, NotReceived, StoreServer, make_known, receive};
 
 #[cfg(test)]

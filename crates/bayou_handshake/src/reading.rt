@@ -1,11 +1,12 @@
-//! One greeting from a channel, and not a byte more.
-ghost use Rattle.std.specs.Prelude.{◌≡◌, ◌+◌, ◌≤◌, ◌++◌, ℕ, List, [], Err, IfErr, IfOk, MatchOption, OnOk, length};
+//! The bytes of one frame from a channel, and not a byte more.
+ghost use Rattle.std.specs.Prelude.{◌≡◌, ◌+◌, ◌≤◌, ◌++◌, ℕ, List, [], Err, IfErr, IfOk, OnOk, length};
 ghost use Rattle.std.specs.Io.KnownBytes.{Consumes, IsAtEnd};
 ghost use Rattle.arrayvec.specs.ArrayVec.{array_vec_len};
 ghost use Rattle.bayou_frames.specs.declared.fault.ChannelFault.TheVariants.{BadFrame, Cut};
+ghost use Rattle.bayou_wire.specs.declared.layout.TheConstants.{LENGTH_BYTES as LEAST};
 ghost use Rattle.bayou_frames.specs.Stopping.{Stops};
 ghost use Rattle.bayou_wire.specs.Greetings.{SpellsGreeting};
-ghost use Rattle.bayou_handshake.specs.Reading.{IsGreetingRead, IsReadingFault};
+ghost use Rattle.bayou_handshake.specs.Reading.{IsGreetingRead, IsReadingFault, IsTextFault, IsTextRead};
 
 use arrayvec::ArrayVec;
 use bayou_frames::{ChannelFault, read_piece};
@@ -18,8 +19,8 @@ use std::io::Read;
 pub const MAX_GREETING_BYTES: usize = 256;
 
 // Adds a piece for which there is room.
-fn add(text: &mut ArrayVec<u8, MAX_GREETING_BYTES>, piece: &[u8])
-    requires { array_vec_len text.old + length piece.now ≤ MAX_GREETING_BYTES }
+fn add<const MOST: usize>(text: &mut ArrayVec<u8, MOST>, piece: &[u8])
+    requires { array_vec_len text.old + length piece.now ≤ MOST }
     ensures items { text.new.items ≡ text.old.items ++ piece.now }
     ensures len { array_vec_len text.new ≡ array_vec_len text.old + length piece.now }
 {
@@ -29,21 +30,21 @@ fn add(text: &mut ArrayVec<u8, MAX_GREETING_BYTES>, piece: &[u8])
 }
 
 // Reads until the text has so many bytes. The input may end before.
-fn read_up_to<R: Read, W>(
+fn read_up_to<R: Read, W, const MOST: usize>(
     channel: &mut CountedChannel<R, W>,
-    text: &mut ArrayVec<u8, MAX_GREETING_BYTES>,
+    text: &mut ArrayVec<u8, MOST>,
     size: usize,
 ) -> Result<(), ChannelFault>
-    requires { size ≤ MAX_GREETING_BYTES }
+    requires { size ≤ MOST }
     ensures reads { (read : List ℕ) × Consumes (R.remaining channel.old.reader) (R.remaining channel.new.reader) read × (text.new.items ≡ text.old.items ++ read) }
     ensures whole { OnOk result (size ≤ array_vec_len text.new) }
     ensures cut { result ≡ Err Cut → IsAtEnd (R.remaining channel.new.reader) }
-    ensures fault { IfErr result IsReadingFault }
+    ensures fault { IfErr result IsTextFault }
     ensures stopped { IfErr result (Stops channel.new.read_failed channel.new.write_failed channel.new.turns_left) }
     ensures turns { channel.new.turns_left ≤ channel.old.turns_left }
     ensures other { (channel.new.writer ≡ channel.old.writer) × (channel.new.write_failed ≡ channel.old.write_failed) }
 {
-    let mut piece = [0; MAX_GREETING_BYTES];
+    let mut piece = [0; MOST];
     while text.len() < size {
         let most = size - text.len();
         let count = read_piece(channel, &mut piece[..most])?;
@@ -53,6 +54,40 @@ fn read_up_to<R: Read, W>(
         add(text, &piece[..count]);
     }
     Ok(())
+}
+
+// How many bytes a frame has that begins so, its length first, if there is room for as many; else those that it begins with.
+fn size_of<const MOST: usize>(text: &ArrayVec<u8, MOST>) -> usize
+    requires { (LEAST ≤ array_vec_len text.now) × (LEAST ≤ MOST) }
+    ensures { result ≤ MOST }
+{
+    let size = LENGTH_BYTES + usize::from(u16::from_be_bytes([text[0], text[1]]));
+    if size <= MOST { size } else { LENGTH_BYTES }
+}
+
+/// Reads the bytes of one frame, its length first, or none where the input ends before it begins. Of one that is longer than there is room for the
+/// length alone is read.
+pub fn read_text<R: Read, W, const MOST: usize>(
+    channel: &mut CountedChannel<R, W>,
+) -> Result<ArrayVec<u8, MOST>, ChannelFault>
+    requires { LEAST ≤ MOST }
+    ensures reads { (read : List ℕ) × Consumes (R.remaining channel.old.reader) (R.remaining channel.new.reader) read
+        × IfOk result (λ text. IsTextRead read (IsAtEnd (R.remaining channel.new.reader)) text.items) }
+    ensures cut { result ≡ Err Cut → IsAtEnd (R.remaining channel.new.reader) }
+    ensures fault { IfErr result IsTextFault }
+    ensures stopped { IfErr result (Stops channel.new.read_failed channel.new.write_failed channel.new.turns_left) }
+    ensures turns { channel.new.turns_left ≤ channel.old.turns_left }
+    ensures other { (channel.new.writer ≡ channel.old.writer) × (channel.new.write_failed ≡ channel.old.write_failed) }
+{
+    let mut text = ArrayVec::new();
+    match read_up_to(channel, &mut text, LENGTH_BYTES) {
+        Ok(()) => {}
+        Err(ChannelFault::Cut) if text.is_empty() => return Ok(text),
+        Err(fault) => return Err(fault),
+    }
+    let size = size_of(&text);
+    read_up_to(channel, &mut text, size)?;
+    Ok(text)
 }
 
 // The greeting that the text spells, whole.
@@ -77,16 +112,9 @@ pub fn read_greeting<R: Read, W>(
     ensures turns { channel.new.turns_left ≤ channel.old.turns_left }
     ensures other { (channel.new.writer ≡ channel.old.writer) × (channel.new.write_failed ≡ channel.old.write_failed) }
 {
-    let mut text = ArrayVec::new();
-    match read_up_to(channel, &mut text, LENGTH_BYTES) {
-        Ok(()) => {}
-        Err(ChannelFault::Cut) if text.is_empty() => return Ok(None),
-        Err(fault) => return Err(fault),
+    let text: ArrayVec<u8, MAX_GREETING_BYTES> = read_text(channel)?;
+    if text.is_empty() {
+        return Ok(None);
     }
-    let size = LENGTH_BYTES + usize::from(u16::from_be_bytes([text[0], text[1]]));
-    if size > MAX_GREETING_BYTES {
-        return Err(ChannelFault::BadFrame);
-    }
-    read_up_to(channel, &mut text, size)?;
     Ok(Some(spelled(text.as_slice())?))
 }

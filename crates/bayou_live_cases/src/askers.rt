@@ -3,26 +3,48 @@ use crate::clients::{parts, reader_before};
 use crate::fakes::{Counting, Slow, slow_reader, slow_writer};
 use crate::fixtures::{bytes, key, must_hold, resting_put, server_id};
 use crate::links::fault_word;
-use bayou_base::{Entry, SessionId, What};
+use bayou_base::{Entry, Prefix, SessionId, Vector, What, Wid};
 use bayou_client::{Asker, Heard, Link, LinkFault};
 use bayou_fakes::words::is_said;
+use bayou_wire::{FateAsked, RowsAsked};
 use std::alloc::Global;
 use std::process::Abort;
 
-/// What a session that needs the first server's first Write is replied, as it reads `a` or puts 1 there at the first server, how that ends, what is to
-/// be entered of it at its first place, and whether it may ask again.
+/// What a session that needs the first server's first Write is replied, as it reads `a` or puts 1 there at the first server, or asks it for the rows of
+/// the keys that begin with `a`, or what became of that Write, how that ends, what is to be entered of it at its first place, and whether it may ask
+/// again.
 const HEARD: &str = "read 0042 11 00 <one> => served read no
 read 004a 11 01 0000000000000001 <one> => served read no
 read 0042 13 02 <none> => Refused refusal no
 read 0042 11 00 <none> => BadFrame nothing no
 read 0042 => Lost nothing no
+list 0044 35 <one> 00 0000 => served read no
+list 004f 35 <one> 01 0001 0161 01 0000000000000001 => served read no
+list 0042 13 02 <none> => Refused refusal no
+list 0044 35 <none> 00 0000 => BadFrame nothing no
+list 0042 33 <one> 00 => BadFrame nothing no
+list 0042 11 00 <one> => BadFrame nothing no
+list 2001 35 <one> 00 0000 => BadFrame nothing no
+list 0044 35 <one> 00 00 => Lost nothing no
+list  => Lost nothing no
+became 0042 33 <one> 00 => served read no
+became 0047 33 <one> 02 03 00000001 => served read no
+became 0002 13 03 => Refused refusal no
+became 0042 33 <none> 00 => BadFrame nothing no
+became 0044 35 <one> 00 0000 => BadFrame nothing no
+became 0002 13 05 => BadFrame nothing no
+became 0042 33 <one> => Lost nothing no
 write 004a 12 00 00000002 00000002 <one> => served write no
 write 0042 13 02 <none> => Refused refusal yes
 write 004a 12 00 00000001 00000001 <none> => BadFrame nothing yes
 write 004a 12 00 00000002 00000002 => Lost nothing yes";
 
-/// What is sent for the two.
+/// What is sent for each.
 const READ: &str = "0043 01 <one> 0161";
+
+const LIST: &str = "0046 22 <one> 0161 00 0079";
+
+const BECAME: &str = "0046 23 <one> 00 00000001";
 
 const WRITE: &str = "005a 06 <tag-1> <one> <put-1>";
 
@@ -97,6 +119,42 @@ fn reads(
     heard_words(asker.read(alloc, link, server_id(rt), &key(rt)), 1)
 }
 
+/// Its list of the keys there that begin with `a`.
+fn lists(
+    rt: &impl Abort,
+    alloc: Global,
+    asker: &mut Asker,
+    link: &mut Over<'_, '_>,
+) -> (&'static str, &'static str) {
+    if asker.session().left() == 0 {
+        return ("no place", "nothing");
+    }
+    let asked = RowsAsked {
+        need: Vector::zero(),
+        prefix: Prefix::new("a").expect(rt, "no prefix"),
+        after: None,
+        most: 121,
+    };
+    heard_words(asker.list(alloc, link, server_id(rt), &asked), 1)
+}
+
+/// What it is told became of the first server's first Write there.
+fn asks_after(
+    rt: &impl Abort,
+    alloc: Global,
+    asker: &mut Asker,
+    link: &mut Over<'_, '_>,
+) -> (&'static str, &'static str) {
+    if asker.session().left() == 0 {
+        return ("no place", "nothing");
+    }
+    let asked = FateAsked {
+        need: Vector::zero(),
+        wid: Wid::new(server_id(rt), 1).expect(rt, "no name"),
+    };
+    heard_words(asker.became(alloc, link, server_id(rt), &asked), 1)
+}
+
 /// Its Write of 1 at `a` there.
 fn writes(
     rt: &impl Abort,
@@ -161,6 +219,8 @@ fn hears(rt: &impl Abort, alloc: Global, request: &str, reply: &[u8], expected: 
     let mut link = Link::new(slow_reader(reply, 4096, 0), &mut writer);
     let (words, sent) = match request {
         "read" => (reads(rt, alloc, &mut asker, &mut link), READ),
+        "list" => (lists(rt, alloc, &mut asker, &mut link), LIST),
+        "became" => (asks_after(rt, alloc, &mut asker, &mut link), BECAME),
         "write" => (writes(rt, alloc, &mut asker, &mut link), WRITE),
         _ => (asks_again(alloc, &mut asker, &mut link), WRITE),
     };

@@ -7,9 +7,11 @@ pub mod ListingLaws
 pub mod Marked
 pub mod Merging
 pub mod Missed
+pub mod Named
 pub mod Picked
 pub mod Prefixed
 pub mod Rooms
 pub mod Slots
 pub mod TakenBack
 pub mod Undone
+pub mod Walked

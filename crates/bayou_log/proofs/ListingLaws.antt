@@ -1,5 +1,6 @@
 -- What a listing tells of each Write.
-use Rattle.std.proofs.Common.{◌≡◌, ℕ, zero, suc, Bool, true, false, cond, List, [], ◌∷◌, Some, length, take, All, slice_get, subst, ap, sym, ◌∙◌, refl}
+use Rattle.std.proofs.Common.{◌≡◌, ℕ, zero, suc, ◌<◌, ◌≤◌, Bool, true, false, cond, List, [], ◌∷◌, Some, length, take, get_or, All, slice_get, subst, ap, sym, ◌∙◌, refl, arith, inl, inr}
+use Rattle.std.proofs.lemmas.Bool.{cases_lt}
 use Rattle.std.specs.List.{filter}
 use Rattle.std.proofs.lemmas.List.Elements.{All-cons, All-filter, All-get_or, All-head, All-tail, All-weaker}
 use Rattle.std.proofs.lemmas.Option.{get_or_from_slice_get, slice_get_within}
@@ -65,7 +66,7 @@ module _ (p : Write → Bool) where
       ap (λ t. cond t (write ∷ filter p writes) (filter p writes)) (All-head (λ write. p write ≡ false) write writes none)
       ∙ filter-none writes (All-tail (λ write. p write ≡ false) write writes none)
 
-not_before_itself : (stamp : Stamp) → is_before stamp stamp ≡ false
+pub not_before_itself : (stamp : Stamp) → is_before stamp stamp ≡ false
 not_before_itself stamp =
     elim (is_before stamp stamp) as (λ t. is_before stamp stamp ≡ t → t ≡ false) [
       | true ↦ λ e. sym e ∙ is_before-asym stamp stamp e
@@ -110,3 +111,36 @@ length-listed_after (write ∷ writes) before = ap suc (length-listed_after writ
 
 pub length-listing_of : (writes : List Write) → length (listing_of writes) ≡ length writes
 length-listing_of writes = length-listed_after (in_stamp_order writes) empty ∙ length-in_stamp_order writes
+
+-- of Writes in their order each comes before those behind it
+pub IsStrict-at : (writes : List Write) (i j : ℕ) (d : Write) → IsStrict writes → i < j → j < length writes → is_before (get_or writes i d).stamp (get_or writes j d).stamp ≡ true
+IsStrict-at [] i j d strict before within = absurd (omega arith)
+IsStrict-at (first ∷ rest) zero zero d strict before within = absurd (omega arith)
+IsStrict-at (first ∷ rest) zero (suc j) d strict before within = strict.0 j d (omega arith)
+IsStrict-at (first ∷ rest) (suc i) zero d strict before within = absurd (omega arith)
+IsStrict-at (first ∷ rest) (suc i) (suc j) d strict before within = IsStrict-at rest i j d strict.1 (omega arith) (omega arith)
+
+-- where one of them comes before the stamp, so do all up to it
+pub before_up_to : (writes : List Write) (stamp : Stamp) (middle place : ℕ) (d : Write) → IsStrict writes → middle < length writes → is_before (get_or writes middle d).stamp stamp ≡ true
+    → place ≤ middle → is_before (get_or writes place d).stamp stamp ≡ true
+before_up_to writes stamp middle place d strict inside here upto =
+    elim (cases_lt place middle) [
+      | inl lt ↦ is_before-cotrans (get_or writes place d).stamp (get_or writes middle d).stamp stamp (IsStrict-at writes place middle d strict lt inside) (is_before-asym (get_or writes middle d).stamp stamp here)
+      | inr le ↦ let same : middle ≡ place = omega arith in subst (λ at. is_before (get_or writes at d).stamp stamp ≡ true) same here
+    ]
+
+-- where one of them doesn't, none from it on does
+pub not_before_from : (writes : List Write) (stamp : Stamp) (middle place : ℕ) (d : Write) → IsStrict writes → is_before (get_or writes middle d).stamp stamp ≡ false
+    → middle ≤ place → place < length writes → is_before (get_or writes place d).stamp stamp ≡ false
+not_before_from writes stamp middle place d strict here from inside =
+    elim (cases_lt middle place) [
+      | inl lt ↦
+          elim (is_before (get_or writes place d).stamp stamp) as (λ t. is_before (get_or writes place d).stamp stamp ≡ t → t ≡ false) [
+            | true ↦ λ e.
+                let earlier : is_before (get_or writes middle d).stamp stamp ≡ true =
+                is_before-cotrans (get_or writes middle d).stamp (get_or writes place d).stamp stamp (IsStrict-at writes middle place d strict lt inside) (is_before-asym (get_or writes place d).stamp stamp e) in
+                absurd (let both : true ≡ false = sym earlier ∙ here in cc)
+            | false ↦ λ e. refl
+          ] refl
+      | inr le ↦ let same : middle ≡ place = omega arith in subst (λ at. is_before (get_or writes at d).stamp stamp ≡ false) same here
+    ]

@@ -23,7 +23,7 @@ use Rattle.bayou_log.proofs.Slots.{database_of-no_slot, slot_at}
 abbrev pub counts : List ℕ → List ℕ × Option Value → Bool
 counts prefix slot = begins_with prefix slot.0 && is_some slot.1
 
-and_none : (b : Bool) → (b && false) ≡ false
+pub and_none : (b : Bool) → (b && false) ≡ false
 and_none true = refl
 and_none false = refl
 
@@ -74,7 +74,7 @@ beyond (x ∷ xs) (y ∷ ys) (z ∷ zs) other after order =
     rest_differs x y same differs = grind (arith, same, differs)
 
 -- the slots ascend, and none of them comes before the first
-pub Ascends : List ℕ → Slots → Type 0
+unfoldable pub Ascends : List ℕ → Slots → Type 0
 Ascends first [] = ⊤
 Ascends first (slot ∷ slots) =
     (is_le (slice_cmp nat_cmp first slot.0) ≡ true) × AllByRecursion (λ (later : List ℕ × Option Value). slice_cmp nat_cmp slot.0 later.0 ≡ Less) slots × Ascends first slots
@@ -83,7 +83,7 @@ Ascends first (slot ∷ slots) =
 abbrev pub is_from : List ℕ → List ℕ × Option Value → Bool
 is_from first slot = range_contains (slice_cmp nat_cmp) (start_at first) Unbounded slot.0
 
-and_true : (b : Bool) → (b && true) ≡ b
+pub and_true : (b : Bool) → (b && true) ≡ b
 and_true true = refl
 and_true false = refl
 
@@ -91,27 +91,33 @@ least : (key : List ℕ) → is_le (slice_cmp nat_cmp [] key) ≡ true
 least [] = refl
 least (byte ∷ key) = refl
 
-is_from-after : (first : List ℕ) (slot : List ℕ × Option Value) → is_from first slot ≡ is_le (slice_cmp nat_cmp first slot.0)
+pub is_from-after : (first : List ℕ) (slot : List ℕ × Option Value) → is_from first slot ≡ is_le (slice_cmp nat_cmp first slot.0)
 is_from-after [] slot = sym (least slot.0)
 is_from-after (byte ∷ first) slot = and_true (is_le (slice_cmp nat_cmp (byte ∷ first) slot.0))
 
-later_kept : (first key : List ℕ) (slots : Slots) → AllByRecursion (λ k. slice_cmp nat_cmp key k ≡ Less) (keys_of slots) → AllByRecursion (λ (later : List ℕ × Option Value). slice_cmp nat_cmp key later.0 ≡ Less) (filter (is_from first) slots)
-later_kept first key [] all = tt
-later_kept first key (slot ∷ slots) all =
-    elim (is_from first slot) as (λ b. AllByRecursion (λ (later : List ℕ × Option Value). slice_cmp nat_cmp key later.0 ≡ Less) (cond b (slot ∷ filter (is_from first) slots) (filter (is_from first) slots))) [
-      | true ↦ (all.0, later_kept first key slots all.1)
-      | false ↦ later_kept first key slots all.1
+later_kept : (keeps : List ℕ × Option Value → Bool) (key : List ℕ) (slots : Slots) → AllByRecursion (λ k. slice_cmp nat_cmp key k ≡ Less) (keys_of slots)
+    → AllByRecursion (λ (later : List ℕ × Option Value). slice_cmp nat_cmp key later.0 ≡ Less) (filter keeps slots)
+later_kept keeps key [] all = tt
+later_kept keeps key (slot ∷ slots) all =
+    elim (keeps slot) as (λ b. AllByRecursion (λ (later : List ℕ × Option Value). slice_cmp nat_cmp key later.0 ≡ Less) (cond b (slot ∷ filter keeps slots) (filter keeps slots))) [
+      | true ↦ (all.0, later_kept keeps key slots all.1)
+      | false ↦ later_kept keeps key slots all.1
     ]
+
+-- slots of which none comes before the first ascend
+pub kept_ascends : (first : List ℕ) (keeps : List ℕ × Option Value → Bool) → ((slot : List ℕ × Option Value) → keeps slot ≡ true → is_le (slice_cmp nat_cmp first slot.0) ≡ true)
+    → (slots : Slots) → IsStrictlySortedBy (slice_cmp nat_cmp) (keys_of slots) → Ascends first (filter keeps slots)
+unfolding IsStrictlySortedBy Ascends
+kept_ascends first keeps after [] sorted = tt
+kept_ascends first keeps after (slot ∷ slots) sorted =
+    elim (keeps slot) as (λ b. keeps slot ≡ b → Ascends first (cond b (slot ∷ filter keeps slots) (filter keeps slots))) [
+      | true ↦ λ is. (after slot is, later_kept keeps slot.0 slots sorted.0, kept_ascends first keeps after slots sorted.1)
+      | false ↦ λ is. kept_ascends first keeps after slots sorted.1
+    ] refl
 
 -- what the range has ascends
 pub range_ascends : (first : List ℕ) (slots : Slots) → IsStrictlySortedBy (slice_cmp nat_cmp) (keys_of slots) → Ascends first (filter (is_from first) slots)
-unfolding IsStrictlySortedBy Ascends
-range_ascends first [] sorted = tt
-range_ascends first (slot ∷ slots) sorted =
-    elim (is_from first slot) as (λ b. is_from first slot ≡ b → Ascends first (cond b (slot ∷ filter (is_from first) slots) (filter (is_from first) slots))) [
-      | true ↦ λ is. (sym (is_from-after first slot) ∙ is, later_kept first slot.0 slots sorted.0, range_ascends first slots sorted.1)
-      | false ↦ λ is. range_ascends first slots sorted.1
-    ] refl
+range_ascends first slots sorted = kept_ascends first (is_from first) (λ slot is. sym (is_from-after first slot) ∙ is) slots sorted
 
 -- what isn't in the range doesn't count
 pub range_counts : (first : List ℕ) (slots : Slots) → filter (counts first) (filter (is_from first) slots) ≡ filter (counts first) slots
@@ -169,7 +175,7 @@ unfolding Ascends
 Ascends-rest first slot slots ascends = ascends.2
 
 -- a key that comes before those of all slots has none
-no_slot : (key : List ℕ) (slots : Slots) → AllByRecursion (λ later. slice_cmp nat_cmp key later ≡ Less) (keys_of slots) → is_some (slot_at slots key) ≡ false
+pub no_slot : (key : List ℕ) (slots : Slots) → AllByRecursion (λ later. slice_cmp nat_cmp key later ≡ Less) (keys_of slots) → is_some (slot_at slots key) ≡ false
 no_slot key [] later = refl
 no_slot key (slot ∷ slots) later = ap (λ order. is_some (cond (is_eq order) (Some slot.1) (slot_at slots key))) later.0 ∙ no_slot key slots later.1
 

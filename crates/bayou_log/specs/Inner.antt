@@ -6,3 +6,4 @@ pub mod Index
 pub mod Lacking
 pub mod Runs
 pub mod Undone
+pub mod Walking

@@ -5,3 +5,4 @@ pub mod Laws
 pub mod Listing
 pub mod Log
 pub mod Replay
+pub mod Rows

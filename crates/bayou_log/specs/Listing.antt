@@ -1,5 +1,6 @@
 -- What became of each Write of a log (Terry et al. 1995): its outcome as the Writes are applied in stamp order.
-use Rattle.std.specs.Prelude.{List, [], ◌∷◌}
+use Rattle.std.specs.Prelude.{◌≡◌, ◌≢◌, List, [], ◌∷◌, All, Contains, Option, None, Some}
+use Rattle.bayou_base.specs.declared.wid.Wid.{Wid}
 use Rattle.bayou_lang.specs.declared.write.Write.{Write}
 use Rattle.bayou_lang.specs.Database.{Database, empty}
 use Rattle.bayou_lang.specs.Meaning.{mean}
@@ -18,3 +19,8 @@ listed_after (write ∷ writes) database = listed_at database write ∷ listed_a
 -- the Writes in stamp order, each with the outcome that it has in the replay
 abbrev pub listing_of : List Write → List Listed
 listing_of writes = listed_after (in_stamp_order writes) empty
+
+-- what a listing tells of the Write of a name: as what it is listed, or that it isn't listed
+abbrev pub TellsOf : List Listed → Wid → Option Listed → Type 0
+TellsOf listing wid (Some listed) = Contains listing listed × (listed.wid ≡ wid)
+TellsOf listing wid None = All (λ listed. listed.wid ≢ wid) listing

@@ -1,4 +1,4 @@
-ghost use Rattle.std.specs.Prelude.{◌≡◌, ◌+◌, [], List, ℕ, IsTrue, OnOk, IfOk, All, Contains, map, nat_le};
+ghost use Rattle.std.specs.Prelude.{◌≡◌, ◌+◌, ◌<◌, ◌↔◌, [], List, ℕ, IsTrue, OnOk, IfOk, All, Contains, length, map, min, nat_le, option_copied, take};
 ghost use Rattle.arrayvec.specs.ArrayVec.{array_vec_len};
 ghost use Rattle.std.specs.List.{flat_map, list_any};
 ghost use Rattle.bayou_lang.specs.Changes.{after_changes, op_key, ChangeOnly};
@@ -6,8 +6,11 @@ ghost use Rattle.bayou_lang.specs.Meaning.{mean};
 ghost use Rattle.bayou_lang.specs.Database.{changed, empty, number_with, value_at};
 ghost use Rattle.bayou_log.specs.Inner.Counting.{Shows, counts_keys, program_counts};
 ghost use Rattle.bayou_log.specs.Db.{database_of, room, has_room, HasRoomAt, HasRoomFor, IsUndo, KeepsRoom};
+ghost use Rattle.bayou_log.specs.Rows.{rows_after};
 
 use crate::present::PresentKeys;
+use crate::rows::first_rows;
+use arrayvec::ArrayVec;
 use bayou_base::{Key, Prefix, Value};
 use bayou_lang::{
     Change, Changes, Cond, Look, Op, Outcome, RestingAlt, RestingProgram, RestingWrite,
@@ -241,6 +244,22 @@ impl Db {
         ensures { result ≡ nat_le (number_with prefix.now (database_of self.now)) most }
     {
         self.present.has_at_most(&self.slots, prefix, most)
+    }
+
+    /// Lists the first of the rows whose keys begin so and come after this one, if there is one, in the order of keys: so many at the most,
+    /// and as many as there are places for. It tells whether one is left, and takes no memory. It goes over the keys that begin so and have
+    /// room, from the first of the rows on, and over no other.
+    pub fn list<const PLACES: usize>(
+        &self,
+        prefix: &Prefix,
+        after: Option<&Key>,
+        most: usize,
+        rows: &mut ArrayVec<(Key, Value), PLACES>,
+    ) -> bool
+        ensures rows { rows.new.items ≡ take (min most PLACES) (rows_after prefix.now (option_copied after.entry) (database_of self.now)) }
+        ensures more { IsTrue result ↔ (min most PLACES < length (rows_after prefix.now (option_copied after.entry) (database_of self.now))) }
+    {
+        first_rows(&self.slots, prefix, after, most, rows)
     }
 
     /// Applies the program, from which no want of memory keeps it, and gives the outcome. The undo is then what [`Db::undo`] needs to take that

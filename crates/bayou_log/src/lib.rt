@@ -28,6 +28,7 @@ mod next;
 mod order;
 pub mod plain;
 mod present;
+mod rows;
 mod undo;
 pub mod write_log;
 

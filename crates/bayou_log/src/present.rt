@@ -35,7 +35,7 @@ impl Model for PresentKeys {
 }
 
 /// Where in the order of keys those stand that begin so.
-fn start_of(prefix: &Prefix) -> Bound<Key>
+pub(crate) fn start_of(prefix: &Prefix) -> Bound<Key>
     ensures { result ≡ start_at prefix.now }
 {
     match prefix.first_key() {
@@ -44,7 +44,7 @@ fn start_of(prefix: &Prefix) -> Bound<Key>
     }
 }
 
-fn begins_with(key: &Key, prefix: &Prefix) -> bool
+pub(crate) fn begins_with(key: &Key, prefix: &Prefix) -> bool
     ensures { result ≡ begins prefix.now key.now }
 {
     key.as_str()

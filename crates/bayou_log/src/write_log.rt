@@ -1,4 +1,4 @@
-ghost use Rattle.std.specs.Prelude.{◌≡◌, ◌≢◌, ℕ, ◌+◌, ◌-◌, ◌<◌, ◌≤◌, ◌↔◌, [], ◌∷◌, ◌++◌, All, Contains, IsTrue, IfNone, IfOk, IfSome, OnOk, length, option_copied, slice_index, take};
+ghost use Rattle.std.specs.Prelude.{◌≡◌, ◌≢◌, ℕ, ◌+◌, ◌-◌, ◌<◌, ◌≤◌, ◌↔◌, [], ◌∷◌, ◌++◌, All, Contains, IsTrue, IfNone, IfOk, IfSome, OnOk, length, min, option_copied, slice_index, take};
 ghost use Rattle.bayou_base.specs.declared.limits.TheConstants.{SERVERS, MAX_WRITES};
 ghost use Rattle.bayou_lang.specs.declared.write.Write.{Write};
 ghost use Rattle.bayou_lang.specs.Database.{value_at};
@@ -7,18 +7,20 @@ ghost use Rattle.bayou_base.specs.Vector.{Dominates};
 ghost use Rattle.bayou_log.specs.Fitting.{FitAnswer};
 ghost use Rattle.bayou_lang.specs.Laws.Clocks.{IsLastClock};
 ghost use Rattle.bayou_log.specs.Inner.Lacking.{IsFirstMissed};
-ghost use Rattle.bayou_log.specs.Listing.{listing_of};
+ghost use Rattle.bayou_log.specs.Listing.{TellsOf, listing_of};
 ghost use Rattle.bayou_log.specs.Log.{IsReserved, applied};
 ghost use Rattle.bayou_log.specs.Replay.{replay};
+ghost use Rattle.bayou_log.specs.Rows.{rows_after};
 
 use crate::db::Db;
 use crate::fitting::{Misfit, is_next};
 use crate::index::Index;
-use crate::listing::{Listed, listed_in_turn};
+use crate::listing::{Listed, listed_in_turn, listed_of};
 use crate::next::counts_and_clock;
 use crate::order::{earlier, put_in_order};
 use crate::undo::{UndoStack, apply_in_turn, take_back};
-use bayou_base::{Key, MAX_WRITES, SERVERS, Value, Vector, Wid};
+use arrayvec::ArrayVec;
+use bayou_base::{Key, MAX_WRITES, Prefix, SERVERS, Value, Vector, Wid};
 use bayou_lang::{Outcome, RestingWrite};
 use std::alloc::{AllocError, Global};
 use std::marker::Model;
@@ -146,6 +148,21 @@ impl WriteLog {
         self.db.get(key)
     }
 
+    /// Lists the first of the rows that the Writes make, but for those that wait, whose keys begin so and come after this one, if there is one:
+    /// so many at the most, and as many as there are places for. It tells whether one is left, and takes no memory.
+    pub fn list<const PLACES: usize>(
+        &self,
+        prefix: &Prefix,
+        after: Option<&Key>,
+        most: usize,
+        rows: &mut ArrayVec<(Key, Value), PLACES>,
+    ) -> bool
+        ensures rows { rows.new.items ≡ take (min most PLACES) (rows_after prefix.now (option_copied after.entry) (replay (applied self.now))) }
+        ensures more { IsTrue result ↔ (min most PLACES < length (rows_after prefix.now (option_copied after.entry) (replay (applied self.now)))) }
+    {
+        self.db.list(prefix, after, most, rows)
+    }
+
     /// For each server the number of its Writes that are held: of the server `s` those from 1 to `vector[s]`.
     #[tactic(auto, using(crate::proofs::Agrees::counts_within))]
     pub fn vector(&self) -> Vector
@@ -241,6 +258,23 @@ impl WriteLog {
         ensures { IfOk result (λ list. list.items ≡ listing_of (applied self.now)) }
     {
         listed_in_turn(alloc, &self.writes, &self.order, &self.outcomes)
+    }
+
+    /// What became of the Write of this name, as [`WriteLog::listing`] tells it, if it is held and doesn't wait. It takes no memory, and looks at a
+    /// few of the Writes, however many are held.
+    pub fn outcome_of(&self, wid: Wid) -> Option<Listed>
+        ensures { TellsOf (listing_of (applied self.now)) wid result }
+    {
+        let Some(write) = self.find(wid) else {
+            return None;
+        };
+        listed_of(
+            wid,
+            write.stamp(),
+            &self.writes,
+            &self.order,
+            &self.outcomes,
+        )
     }
 
     /// The first `max` of the Writes held, in stamp order, that the vector doesn't count: what a server with these counts

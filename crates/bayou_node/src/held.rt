@@ -1,10 +1,11 @@
-ghost use Rattle.std.specs.Prelude.{◌≡◌, ◌≤◌, ◌<◌, ◌+◌, ◌^◌, ◌⊎◌, ℕ, [], None, Err, IfOk, MatchResult, drop, length, slice_index, sum, take};
+ghost use Rattle.std.specs.Prelude.{◌≡◌, ◌≤◌, ◌<◌, ◌+◌, ◌^◌, ◌⊎◌, ℕ, [], None, Err, IfOk, MatchResult, drop, length, option_copied, slice_index, sum, take};
 ghost use Rattle.bayou_base.specs.declared.limits.TheConstants.{MAX_WRITES};
 ghost use Rattle.bayou_lang.specs.Writes.{count_of, lacking_of};
 ghost use Rattle.bayou_log.specs.Listing.{listing_of};
 ghost use Rattle.bayou_node.specs.Answers.{IsWritten, Pays};
 ghost use Rattle.bayou_node.specs.Books.{AreNewDesks, IsBlankOf, IsExact, StillHolds, begun_of, opened};
 ghost use Rattle.bayou_node.specs.Settles.{IsSettled};
+ghost use Rattle.bayou_server.specs.Lookups.{AsksAfter, Lists};
 ghost use Rattle.bayou_server.specs.Reads.{Reads};
 ghost use Rattle.bayou_server.specs.Reopens.{ReopensAll, own_adopted};
 ghost use Rattle.bayou_server.specs.Server.{own_count};
@@ -16,13 +17,14 @@ ghost use Rattle.bayou_server.specs.Writes.{Writes, own_made};
 
 use crate::desk::{Desk, Desks};
 use crate::node_settled::{DeskMissing, NodeSettled, NotMade};
-use bayou_base::{Key, Seen, Tag, Vector};
+use bayou_base::{Key, Prefix, Seen, Tag, Vector, Wid};
 use bayou_device::Device;
 use bayou_lang::{RestingProgram, RestingWrite};
 use bayou_log::Listed;
 use bayou_server::{
-    Behind, ReopenFault, Reopened, Server, TakeFault, Took, TookAll, WriteFault, Written,
+    Behind, ReopenFault, Reopened, Server, TakeFault, Told, Took, TookAll, WriteFault, Written,
 };
+use bayou_wire::Page;
 use std::alloc::{AllocError, Global};
 use std::collections::VecDeque;
 use std::marker::Model;
@@ -133,6 +135,28 @@ impl<D: Device, L: Desks> Held<D, L> {
         ensures exact { IsExact L.begun self.now }
     {
         self.server.read(need, key)
+    }
+
+    /// As [`Server::list`].
+    pub fn list(
+        &self,
+        need: &Vector,
+        prefix: &Prefix,
+        after: Option<&Key>,
+        most: u16,
+    ) -> Result<Page, Behind>
+        ensures lists { Lists self.now.server.core need.now prefix.now (option_copied after.entry) most result }
+        ensures exact { IsExact L.begun self.now }
+    {
+        self.server.list(need, prefix, after, most)
+    }
+
+    /// As [`Server::became`].
+    pub fn became(&self, need: &Vector, wid: Wid) -> Result<Told, Behind>
+        ensures tells { AsksAfter self.now.server.core need.now wid result }
+        ensures exact { IsExact L.begun self.now }
+    {
+        self.server.became(need, wid)
     }
 
     /// As [`Server::write`]. The desk is paid where, and only where, a new Write is made of the program.

@@ -1,4 +1,4 @@
-ghost use Rattle.std.specs.Prelude.{◌≡◌, ◌≤◌, ◌<◌, ◌^◌, ℕ, List, [], None, Err, IfOk, MatchResult, drop, length, take};
+ghost use Rattle.std.specs.Prelude.{◌≡◌, ◌≤◌, ◌<◌, ◌^◌, ℕ, List, [], None, Err, IfOk, MatchResult, drop, length, option_copied, take};
 ghost use Rattle.bayou_base.specs.Vector.{Dominates};
 ghost use Rattle.bayou_base.specs.declared.limits.TheConstants.{MAX_WRITES};
 ghost use Rattle.bayou_lang.specs.declared.write.Write.{Write};
@@ -7,6 +7,7 @@ ghost use Rattle.bayou_log.specs.Listing.{listing_of};
 ghost use Rattle.bayou_node.specs.Answers.{BySome, InSome, IsWritten, Pays, TakesAllAtNode};
 ghost use Rattle.bayou_node.specs.Books.{AreNewDesks, IsBlankOf, begun_of};
 ghost use Rattle.bayou_node.specs.Settles.{IsNodeSettled};
+ghost use Rattle.bayou_server.specs.Lookups.{AsksAfter, Lists};
 ghost use Rattle.bayou_server.specs.Reads.{Reads};
 ghost use Rattle.bayou_server.specs.Reopens.{ReopensSome};
 ghost use Rattle.bayou_server.specs.Takes.{Takes};
@@ -15,13 +16,14 @@ ghost use Rattle.bayou_server.specs.Writes.{Writes};
 use crate::desk::{Desk, Desks};
 use crate::held::Held;
 use crate::node_settled::{DeskMissing, NodeSettled, NotMade};
-use bayou_base::{Key, Seen, ServerId, Tag, Vector};
+use bayou_base::{Key, Prefix, Seen, ServerId, Tag, Vector, Wid};
 use bayou_device::Device;
 use bayou_lang::{RestingProgram, RestingWrite};
 use bayou_log::Listed;
 use bayou_server::{
-    Behind, ReopenFault, Reopened, Server, TakeFault, Took, TookAll, WriteFault, Written,
+    Behind, ReopenFault, Reopened, Server, TakeFault, Told, Took, TookAll, WriteFault, Written,
 };
+use bayou_wire::Page;
 use std::alloc::{AllocError, Global};
 use std::collections::VecDeque;
 use std::marker::Model;
@@ -102,6 +104,29 @@ impl<D: Device, L: Desks> Node<D, L> {
         ensures covered { IfOk result (λ seen. Dominates seen.vector need.now) }
     {
         self.enter(rt).read(need, key)
+    }
+
+    /// As [`Held::list`].
+    pub fn list<R: Wait>(
+        &self,
+        rt: &R,
+        need: &Vector,
+        prefix: &Prefix,
+        after: Option<&Key>,
+        most: u16,
+    ) -> Result<Page, Behind>
+        ensures lists { InSome L.begun (λ core. Lists core need.now prefix.now (option_copied after.entry) most result) }
+        ensures covered { IfOk result (λ page. Dominates page.vector need.now) }
+    {
+        self.enter(rt).list(need, prefix, after, most)
+    }
+
+    /// As [`Held::became`].
+    pub fn became<R: Wait>(&self, rt: &R, need: &Vector, wid: Wid) -> Result<Told, Behind>
+        ensures tells { InSome L.begun (λ core. AsksAfter core need.now wid result) }
+        ensures covered { IfOk result (λ told. Dominates told.vector need.now) }
+    {
+        self.enter(rt).became(need, wid)
     }
 
     /// As [`Held::write`].

@@ -1,4 +1,5 @@
 pub mod Claiming
+pub mod Named
 pub mod Once
 pub mod Places
 pub mod Sound

@@ -7,14 +7,15 @@ use Rattle.bayou_base.specs.Key.{key_fault}
 use Rattle.bayou_base.specs.declared.limits.TheConstants.{MAX_ALTERNATIVES}
 use Rattle.bayou_base.specs.declared.server.ServerId.{ServerId}
 use Rattle.bayou_base.specs.declared.value.Value.{Value}
+use Rattle.bayou_base.specs.declared.wid.Wid.{Wid}
 use Rattle.bayou_lang.specs.Ranges.{IsKey}
 use Rattle.bayou_person.specs.declared.wish.Wish.{Wish}
-use Rattle.bayou_person.specs.declared.wish.Wish.TheVariants.{Put, Add, Del, Claim, Get, At, List as Whole, Servers, Session, Dump}
+use Rattle.bayou_person.specs.declared.wish.Wish.TheVariants.{Put, Add, Del, Claim, Get, At, List as Whole, Rows, Became, Servers, Session, Dump}
 use Rattle.bayou_person.specs.declared.wish.WishFault.{WishFault}
 use Rattle.bayou_person.specs.declared.wish.WishFault.TheVariants as fault
-use Rattle.bayou_person.specs.Wishes.{Faults, IsValueOf, Reads, ReadsServer, Says, Word, is_first, is_key_place, is_one_of, takes}
+use Rattle.bayou_person.specs.Wishes.{Faults, IsValueOf, Reads, ReadsName, ReadsServer, Says, Word, is_first, is_key_place, is_one_of, takes}
 use Rattle.bayou_person.proofs.Once.{same_ends}
-use Rattle.bayou_person.proofs.Telling.{claim_takes}
+use Rattle.bayou_person.proofs.Telling.{claim_takes, get_takes}
 
 -- what stands where keys stand, and at the end, is as it must be
 record IsGood (first : Word) (behind : List Word) : Type 0 where
@@ -24,6 +25,7 @@ record IsGood (first : Word) (behind : List Word) : Type 0 where
   value : (front : List Word) (word : Word) → behind ≡ front ++ word ∷ [] → is_one_of (codes "put" ∷ codes "claim" ∷ []) first ≡ true → (value : Value) × IsValueOf word value
   number : (key word : Word) → behind ≡ key ∷ word ∷ [] → bytes_eq first (codes "add") ≡ true → (number : ℤ) × Reads word number
   server : (word : Word) → behind ≡ word ∷ [] → bytes_eq first (codes "at") ≡ true → (server : ServerId) × ReadsServer word server
+  name : (word : Word) → behind ≡ word ∷ [] → bytes_eq first (codes "became") ≡ true → (wid : Wid) × ReadsName word wid
 
 -- the one before others is the first of them
 at_front : (word : Word) (words good : List Word) (key : Word) (after : List Word) → word ∷ words ≡ good ++ key ∷ after → length good ≡ 0 → word ≡ key
@@ -37,6 +39,13 @@ before_last [] (one ∷ good) last key after all is some = absurd (omega (arith,
 before_last (word ∷ front) [] last key after all is some = subst IsKey (ap (λ list. get_or list 0 word) is) (All-head IsKey word front all)
 before_last (word ∷ front) (one ∷ good) last key after all is some = before_last front good last key after (All-tail IsKey word front all) (ap (drop 1) is) some
 
+-- each of keys is one
+one_of_keys : (keys good : List Word) (key : Word) (after : List Word) → All IsKey keys → keys ≡ good ++ key ∷ after → IsKey key
+one_of_keys [] [] key after all is = absurd (omega (arith, ap length is))
+one_of_keys [] (one ∷ good) key after all is = absurd (omega (arith, ap length is))
+one_of_keys (word ∷ keys) [] key after all is = subst IsKey (ap (λ list. get_or list 0 word) is) (All-head IsKey word keys all)
+one_of_keys (word ∷ keys) (one ∷ good) key after all is = one_of_keys keys good key after (All-tail IsKey word keys all) (ap (drop 1) is)
+
 good_put : (key word : Word) (value : Value) → IsKey key → IsValueOf word value → IsGood (codes "put") (key ∷ word ∷ [])
 good_put key word value key_is worth = record {
   known = refl;
@@ -45,6 +54,7 @@ good_put key word value key_is worth = record {
   value = λ front last is one. (value, subst (λ it. IsValueOf it value) (same_ends (key ∷ []) front word last is).1 worth);
   number = λ key word is one. absurd (true≢false (sym one));
   server = λ word is one. absurd (true≢false (sym one));
+  name = λ word is one. absurd (true≢false (sym one));
 }
 
 good_add : (key word : Word) (number : ℤ) → IsKey key → Reads word number → IsGood (codes "add") (key ∷ word ∷ [])
@@ -55,6 +65,7 @@ good_add key word number key_is reads = record {
   value = λ front word is one. absurd (true≢false (sym one));
   number = λ other last is one. (number, subst (λ it. Reads it number) (ap (λ list. get_or list 1 []) is) reads);
   server = λ word is one. absurd (true≢false (sym one));
+  name = λ word is one. absurd (true≢false (sym one));
 }
 
 good_del : (key : Word) → IsKey key → IsGood (codes "del") (key ∷ [])
@@ -65,16 +76,18 @@ good_del key key_is = record {
   value = λ front word is one. absurd (true≢false (sym one));
   number = λ key word is one. absurd (true≢false (sym one));
   server = λ word is one. absurd (true≢false (sym one));
+  name = λ word is one. absurd (true≢false (sym one));
 }
 
-good_get : (key : Word) → IsKey key → IsGood (codes "get") (key ∷ [])
-good_get key key_is = record {
+good_get : (key : Word) (others : List Word) → length others ≤ MAX_ALTERNATIVES → IsKey key → All IsKey others → IsGood (codes "get") (key ∷ others)
+good_get key others within key_is all = record {
   known = refl;
-  fits = refl;
-  keys = λ good other after is place. subst IsKey (at_front key [] good other after is (eqb-true (length good) 0 place)) key_is;
+  fits = get_takes key others within;
+  keys = λ good other after is place. one_of_keys (key ∷ others) good other after (All-cons IsKey key others key_is all) is;
   value = λ front word is one. absurd (true≢false (sym one));
   number = λ key word is one. absurd (true≢false (sym one));
   server = λ word is one. absurd (true≢false (sym one));
+  name = λ word is one. absurd (true≢false (sym one));
 }
 
 good_at : (word : Word) (server : ServerId) → ReadsServer word server → IsGood (codes "at") (word ∷ [])
@@ -85,6 +98,7 @@ good_at word server reads = record {
   value = λ front word is one. absurd (true≢false (sym one));
   number = λ key word is one. absurd (true≢false (sym one));
   server = λ last is one. (server, subst (λ it. ReadsServer it server) (ap (λ list. get_or list 0 []) is) reads);
+  name = λ word is one. absurd (true≢false (sym one));
 }
 
 good_claim : (key : Word) (others : List Word) (word : Word) (value : Value) → length others ≤ MAX_ALTERNATIVES → IsKey key → All IsKey others → IsValueOf word value
@@ -96,16 +110,40 @@ good_claim key others word value within key_is all worth = record {
   value = λ front last is one. (value, subst (λ it. IsValueOf it value) (same_ends (key ∷ others) front word last is).1 worth);
   number = λ key word is one. absurd (true≢false (sym one));
   server = λ word is one. absurd (true≢false (sym one));
+  name = λ word is one. absurd (true≢false (sym one));
 }
 
 good_list : IsGood (codes "list") []
 good_list = record {
   known = refl;
   fits = refl;
+  keys = λ good key after is place. absurd (omega (arith, ap length is, length-append good (key ∷ after)));
+  value = λ front word is one. absurd (true≢false (sym one));
+  number = λ key word is one. absurd (true≢false (sym one));
+  server = λ word is one. absurd (true≢false (sym one));
+  name = λ word is one. absurd (true≢false (sym one));
+}
+
+good_rows : (prefix : Word) → IsKey prefix → IsGood (codes "list") (prefix ∷ [])
+good_rows prefix prefix_is = record {
+  known = refl;
+  fits = refl;
+  keys = λ good other after is place. subst IsKey (at_front prefix [] good other after is (eqb-true (length good) 0 place)) prefix_is;
+  value = λ front word is one. absurd (true≢false (sym one));
+  number = λ key word is one. absurd (true≢false (sym one));
+  server = λ word is one. absurd (true≢false (sym one));
+  name = λ word is one. absurd (true≢false (sym one));
+}
+
+good_became : (word : Word) (wid : Wid) → ReadsName word wid → IsGood (codes "became") (word ∷ [])
+good_became word wid reads = record {
+  known = refl;
+  fits = refl;
   keys = λ good key after is place. absurd (true≢false (sym place));
   value = λ front word is one. absurd (true≢false (sym one));
   number = λ key word is one. absurd (true≢false (sym one));
   server = λ word is one. absurd (true≢false (sym one));
+  name = λ last is one. (wid, subst (λ it. ReadsName it wid) (ap (λ list. get_or list 0 []) is) reads);
 }
 
 good_servers : IsGood (codes "servers") []
@@ -116,6 +154,7 @@ good_servers = record {
   value = λ front word is one. absurd (true≢false (sym one));
   number = λ key word is one. absurd (true≢false (sym one));
   server = λ word is one. absurd (true≢false (sym one));
+  name = λ word is one. absurd (true≢false (sym one));
 }
 
 good_session : IsGood (codes "session") []
@@ -126,6 +165,7 @@ good_session = record {
   value = λ front word is one. absurd (true≢false (sym one));
   number = λ key word is one. absurd (true≢false (sym one));
   server = λ word is one. absurd (true≢false (sym one));
+  name = λ word is one. absurd (true≢false (sym one));
 }
 
 good_dump : IsGood (codes "dump") []
@@ -136,6 +176,7 @@ good_dump = record {
   value = λ front word is one. absurd (true≢false (sym one));
   number = λ key word is one. absurd (true≢false (sym one));
   server = λ word is one. absurd (true≢false (sym one));
+  name = λ word is one. absurd (true≢false (sym one));
 }
 
 -- the words that say something begin so, and are good
@@ -145,9 +186,11 @@ said words (Add key number) (word, is, key_is, reads) = (codes "add", key ∷ wo
 said words (Del key) (is, key_is) = (codes "del", key ∷ [], is, good_del key key_is)
 said words (Claim key others value) (word, is, few, key_is, all, worth) =
     (codes "claim", key ∷ others.items ++ word ∷ [], is, good_claim key others.items word value few key_is all worth)
-said words (Get key) (is, key_is) = (codes "get", key ∷ [], is, good_get key key_is)
+said words (Get key others) (is, few, key_is, all) = (codes "get", key ∷ others.items, is, good_get key others.items few key_is all)
 said words (At server) (word, is, reads) = (codes "at", word ∷ [], is, good_at word server reads)
 said words Whole is = (codes "list", [], is, good_list)
+said words (Rows prefix) (is, prefix_is) = (codes "list", prefix ∷ [], is, good_rows prefix prefix_is)
+said words (Became wid) (word, is, reads) = (codes "became", word ∷ [], is, good_became word wid reads)
 said words Servers is = (codes "servers", [], is, good_servers)
 said words Session is = (codes "session", [], is, good_session)
 said words Dump is = (codes "dump", [], is, good_dump)
@@ -196,4 +239,10 @@ no_fault words wish fault.Server says (word, other_is, none) =
     let rests = rest_is words first (codes "at") behind (word ∷ []) is other_is in
     let (server, reads) = good.server word rests (ap (λ it. bytes_eq it (codes "at")) same) in
     absurd (none server reads)
+no_fault words wish fault.Name says (word, other_is, none) =
+    let (first, behind, is, good) = said words wish says in
+    let same = first_is words first (codes "became") behind (word ∷ []) is other_is in
+    let rests = rest_is words first (codes "became") behind (word ∷ []) is other_is in
+    let (wid, reads) = good.name word rests (ap (λ it. bytes_eq it (codes "became")) same) in
+    absurd (none wid reads)
 no_fault words wish fault.OutOfMemory says faulty = refl

@@ -1,7 +1,9 @@
 -- The faults of the words of a line.
-use Rattle.std.proofs.Common.{◌≡◌, ◌∙◌, ◌+◌, ◌-◌, ◌<◌, ◌≤◌, ◌&&◌, ℕ, true, List, [], ◌∷◌, ◌++◌, All, Some, Bor, ap, ap₂, arith, codes, drop, get_or, length, le-leb, lt-ltb, map, refl, subst, suc, sym, take, zero}
+use Rattle.std.proofs.Common.{◌≡◌, ◌≢◌, ◌∙◌, ◌+◌, ◌-◌, Bool, ◌<◌, ◌≤◌, ◌&&◌, ◌||◌, ℕ, true, false, inr, List, [], ◌∷◌, ◌++◌, All, Some, Bor, ap, ap₂, arith, codes, drop, get_or, length, le-leb, lt-ltb, map, refl, subst, suc, sym, take, zero}
 use Rattle.std.proofs.lemmas.List.{append_assoc, length-append, map-append, map_more, take_all, take_more}
 use Rattle.std.proofs.lemmas.List.Elements.{All-cons, All-nil, All-push}
+use Rattle.std.proofs.lemmas.Slice.Eq.{bytes_eq-Decides}
+use Rattle.std.specs.Str.{bytes_eq}
 use Rattle.bayou_base.specs.Key.{key_fault}
 use Rattle.bayou_base.specs.declared.key.KeyFault.{KeyFault}
 use Rattle.bayou_base.specs.declared.limits.TheConstants.{MAX_ALTERNATIVES}
@@ -48,6 +50,29 @@ claim_other key others good other after word why within is split all bad =
       bad,
     )
 
+-- so many words may stand behind `get`
+pub get_takes : (key : Word) (others : List Word) → length others ≤ MAX_ALTERNATIVES → takes (codes "get") (length (key ∷ others)) ≡ true
+get_takes key others within =
+    ap₂ ◌&&◌ (le-leb 1 (length (key ∷ others)) (omega arith)) (le-leb (length (key ∷ others)) (MAX_ALTERNATIVES + 1) (omega (arith, within)))
+
+-- and one of the others is no key
+pub get_other : (key : Word) (others good : List Word) (other : Word) (after : List Word) (why : KeyFault) → length others ≤ MAX_ALTERNATIVES → IsKey key
+    → others ≡ good ++ other ∷ after → All IsKey good → key_fault other ≡ Some why → Faults (codes "get" ∷ key ∷ others) (fault.Key why)
+get_other key others good other after why within is split all bad = (
+  codes "get",
+  key ∷ good,
+  other,
+  after,
+  record {
+    is = ap (λ list. codes "get" ∷ key ∷ list) split;
+    known = refl;
+    fits = subst (λ (list : List Word). takes (codes "get") (length list) ≡ true) (ap (λ list. key ∷ list) split) (get_takes key others within);
+  },
+  refl,
+  All-cons IsKey key good is all,
+  bad,
+)
+
 -- the last word is no value, for this reason
 pub value_told : (first : Word) (keys : List Word) (word : Word) (told : WishFault) → is_first first ≡ true → takes first (length (keys ++ word ∷ [])) ≡ true
     → is_one_of (codes "put" ∷ codes "claim" ∷ []) first ≡ true → All IsKey keys → IsValueFault word told → Faults (first ∷ keys ++ word ∷ []) told
@@ -58,6 +83,7 @@ value_told first keys word (fault.Value reason) known fits one all (is, none) =
     (first, keys, word, record { is = refl; known = known; fits = fits }, one, all, is, none)
 value_told first keys word fault.Number known fits one all why = absurd why
 value_told first keys word fault.Server known fits one all why = absurd why
+value_told first keys word fault.Name known fits one all why = absurd why
 value_told first keys word fault.OutOfMemory known fits one all why = tt
 
 pub claim_value : (key : Word) (others : List Word) (word : Word) (told : WishFault) → length others ≤ MAX_ALTERNATIVES → IsKey key → All IsKey others
@@ -116,3 +142,33 @@ ends (word ∷ words) d least =
     let end : suc last ≡ length (word ∷ words) - 1 = omega (arith, least) in
     ap (λ list. word.now ∷ bytes_of list) whole ∙ ap (λ list. word.now ∷ list) (map-append (λ (it : Bor Word). it.now) (take last words) (get_or words last d ∷ []))
     ∙ ap₂ (λ (many place : ℕ). word.now ∷ bytes_of (take many words) ++ (get_or (word ∷ words) place d).now ∷ []) between end
+
+-- the word is none of these
+abbrev Differs : Word → List Word → Type 0
+Differs word [] = Unit {0}
+Differs word (other ∷ words) = (word ≢ other) × Differs word words
+
+not_so : (b : Bool) → ¬ (b ≡ true) → b ≡ false
+not_so true never = absurd (never refl)
+not_so false never = refl
+
+apart : (word other : Word) → word ≢ other → bytes_eq word other ≡ false
+apart word other differ = not_so (bytes_eq word other) (λ same. differ ((bytes_eq-Decides word other).0 same))
+
+none_of : (word : Word) (words : List Word) → Differs word words → is_one_of words word ≡ false
+none_of word [] differs = refl
+none_of word (other ∷ words) (differ, differs) = ap₂ ◌||◌ (apart word other differ) (none_of word words differs)
+
+-- what lines begin with
+abbrev firsts : List Word
+firsts =
+    codes "put" ∷ codes "add" ∷ codes "del" ∷ codes "claim" ∷ codes "get" ∷ codes "at" ∷ codes "list" ∷ codes "became"
+    ∷ codes "servers" ∷ codes "session" ∷ codes "dump" ∷ []
+
+-- no line begins with the first word
+pub unknown : (words : List Word) (first : Word) (behind : List Word) → words ≡ first ∷ behind → first ≢ codes "put" → first ≢ codes "add"
+    → first ≢ codes "del" → first ≢ codes "claim" → first ≢ codes "get" → first ≢ codes "at" → first ≢ codes "list" → first ≢ codes "became"
+    → first ≢ codes "servers" → first ≢ codes "session" → first ≢ codes "dump" → Faults words fault.Word
+unknown words first behind is put add del claim get at list became servers session dump =
+    let differs = none_of first firsts (put, (add, (del, (claim, (get, (at, (list, (became, (servers, (session, (dump, tt))))))))))) in
+    inr (first, behind, is, differs)

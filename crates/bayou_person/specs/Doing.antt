@@ -7,7 +7,7 @@ use Rattle.bayou_lang.specs.declared.program.Program.{Program}
 use Rattle.bayou_lang.specs.Database.{Database, changed, value_at}
 use Rattle.bayou_lang.specs.Meaning.{fits_i64, mean}
 use Rattle.bayou_person.specs.declared.wish.Wish.{Wish}
-use Rattle.bayou_person.specs.declared.wish.Wish.TheVariants.{Put, Add, Del, Claim, Get, At, List as Whole, Servers, Session, Dump}
+use Rattle.bayou_person.specs.declared.wish.Wish.TheVariants.{Put, Add, Del, Claim, Get, At, List as Whole, Rows, Became, Servers, Session, Dump}
 
 -- the key has the value then, whatever it had
 abbrev pub Puts : List ℕ → Value → Program → Type 0
@@ -46,9 +46,11 @@ is_write (Put key value) = true
 is_write (Add key number) = true
 is_write (Del key) = true
 is_write (Claim key others value) = true
-is_write (Get key) = false
+is_write (Get key others) = false
 is_write (At server) = false
 is_write Whole = false
+is_write (Rows prefix) = false
+is_write (Became wid) = false
 is_write Servers = false
 is_write Session = false
 is_write Dump = false
@@ -59,9 +61,11 @@ Does (Put key value) program = Puts key value program
 Does (Add key number) program = Adds key number program
 Does (Del key) program = Removes key program
 Does (Claim key others value) program = Claims key others.items value program
-Does (Get key) program = ⊥
+Does (Get key others) program = ⊥
 Does (At server) program = ⊥
 Does Whole program = ⊥
+Does (Rows prefix) program = ⊥
+Does (Became wid) program = ⊥
 Does Servers program = ⊥
 Does Session program = ⊥
 Does Dump program = ⊥

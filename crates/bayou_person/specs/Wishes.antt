@@ -1,5 +1,5 @@
 -- What a person asks for in a line: its words, and what they say. The forms are this project's own; texts in double quotes are those of RFC 8259.
-use Rattle.std.specs.Prelude.{◌≡◌, ◌⊎◌, ◌≤◌, ◌+◌, ◌==◌, ◌&&◌, if◌then◌else◌, ℕ, ℤ, Bool, true, false, List, [], ◌∷◌, ◌++◌, All, FitsSigned, IsSomeAnd, Option, None, Some, codes, drop, filter, length, nat_le, nat_lt, option_and_then, slice_index}
+use Rattle.std.specs.Prelude.{◌≡◌, ◌⊎◌, ◌≤◌, ◌+◌, ◌==◌, ◌&&◌, if◌then◌else◌, ℕ, ℤ, Bool, true, false, List, [], ◌∷◌, ◌++◌, All, FitsSigned, IsSomeAnd, Option, None, Some, codes, decimal, drop, filter, length, nat_le, nat_lt, option_and_then, slice_index}
 use Rattle.std.specs.Char.{is_ascii_digit}
 use Rattle.std.specs.Fmt.{signed_decimal}
 use Rattle.std.specs.Int.{w64}
@@ -14,9 +14,10 @@ use Rattle.bayou_base.specs.declared.limits.TheConstants.{MAX_ALTERNATIVES}
 use Rattle.bayou_base.specs.declared.server.ServerId.{ServerId}
 use Rattle.bayou_base.specs.declared.value.Value.{Value}
 use Rattle.bayou_base.specs.declared.value.Value.TheVariants.{Num, Text}
+use Rattle.bayou_base.specs.declared.wid.Wid.{Wid}
 use Rattle.bayou_lang.specs.Ranges.{IsKey}
 use Rattle.bayou_person.specs.declared.wish.Wish.{Wish}
-use Rattle.bayou_person.specs.declared.wish.Wish.TheVariants.{Put, Add, Del, Claim, Get, At, List as Whole, Servers, Session, Dump}
+use Rattle.bayou_person.specs.declared.wish.Wish.TheVariants.{Put, Add, Del, Claim, Get, At, List as Whole, Rows, Became, Servers, Session, Dump}
 use Rattle.bayou_person.specs.declared.wish.ValueFault.{ValueFault}
 use Rattle.bayou_person.specs.declared.wish.ValueFault.TheVariants as values
 use Rattle.bayou_person.specs.declared.wish.WishFault.{WishFault}
@@ -68,6 +69,10 @@ pub record ReadsServer (word : Word) (server : ServerId) : Type 0 where
   pub digits : IsNumeral 10 (without_leading_plus word)
   pub is : server.index ≡ digits_value 10 (without_leading_plus word)
 
+-- the word is the name of this Write: the number of its server, a colon, and its own number
+abbrev pub ReadsName : Word → Wid → Type 0
+ReadsName word wid = word ≡ decimal wid.origin.index ++ (codes ":" ++ decimal wid.seq)
+
 -- a value is a number where the word reads as one, and else the text that the word stands for, where that is short enough
 abbrev pub IsValueOf : Word → Value → Type 0
 IsValueOf word (Num number) = Reads word number
@@ -86,9 +91,12 @@ Says words (Add key number) = (word : Word) × (words ≡ codes "add" ∷ key �
 Says words (Del key) = (words ≡ codes "del" ∷ key ∷ []) × IsKey key
 Says words (Claim key others value) =
     (word : Word) × (words ≡ codes "claim" ∷ key ∷ others.items ++ word ∷ []) × (length others.items ≤ MAX_ALTERNATIVES) × IsKey key × All IsKey others.items × IsValueOf word value
-Says words (Get key) = (words ≡ codes "get" ∷ key ∷ []) × IsKey key
+Says words (Get key others) =
+    (words ≡ codes "get" ∷ key ∷ others.items) × (length others.items ≤ MAX_ALTERNATIVES) × IsKey key × All IsKey others.items
 Says words (At server) = (word : Word) × (words ≡ codes "at" ∷ word ∷ []) × ReadsServer word server
 Says words Whole = words ≡ codes "list" ∷ []
+Says words (Rows prefix) = (words ≡ codes "list" ∷ prefix ∷ []) × IsKey prefix
+Says words (Became wid) = (word : Word) × (words ≡ codes "became" ∷ word ∷ []) × ReadsName word wid
 Says words Servers = words ≡ codes "servers" ∷ []
 Says words Session = words ≡ codes "session" ∷ []
 Says words Dump = words ≡ codes "dump" ∷ []
@@ -104,20 +112,25 @@ is_one_of words word = list_any (bytes_eq word) words
 -- whether a line begins so
 abbrev pub is_first : Word → Bool
 is_first word =
-    is_one_of (codes "put" ∷ codes "add" ∷ codes "del" ∷ codes "claim" ∷ codes "get" ∷ codes "at" ∷ codes "list" ∷ codes "servers" ∷ codes "session" ∷ codes "dump" ∷ []) word
+    is_one_of (codes "put" ∷ codes "add" ∷ codes "del" ∷ codes "claim" ∷ codes "get" ∷ codes "at" ∷ codes "list" ∷ codes "became"
+    ∷ codes "servers" ∷ codes "session" ∷ codes "dump" ∷ []) word
 
 -- whether so many words may stand behind the first
 abbrev pub takes : Word → ℕ → Bool
 takes first count =
     if is_one_of (codes "put" ∷ codes "add" ∷ []) first then count == 2
-    else if is_one_of (codes "del" ∷ codes "get" ∷ codes "at" ∷ []) first then count == 1
+    else if is_one_of (codes "del" ∷ codes "at" ∷ codes "became" ∷ []) first then count == 1
     else if bytes_eq first (codes "claim") then nat_le 2 count && nat_le count (MAX_ALTERNATIVES + 2)
+    else if bytes_eq first (codes "get") then nat_le 1 count && nat_le count (MAX_ALTERNATIVES + 1)
+    else if bytes_eq first (codes "list") then nat_le count 1
     else count == 0
 
 -- whether a word with so many before it, the first aside, and so many behind it is to be a key
 abbrev pub is_key_place : Word → ℕ → ℕ → Bool
 is_key_place first before after =
-    if bytes_eq first (codes "claim") then nat_lt 0 after else is_one_of (codes "put" ∷ codes "add" ∷ codes "del" ∷ codes "get" ∷ []) first && (before == 0)
+    if bytes_eq first (codes "claim") then nat_lt 0 after
+    else if bytes_eq first (codes "get") then true
+    else is_one_of (codes "put" ∷ codes "add" ∷ codes "del" ∷ codes "list" ∷ []) first && (before == 0)
 
 -- a line begins so, and has so many words
 pub record IsFormed (words : List Word) (first : Word) (behind : List Word) : Type 0 where
@@ -135,6 +148,7 @@ Faults words (fault.Value why) = (first : Word) × (keys : List Word) × (word :
     × (is_one_of (codes "put" ∷ codes "claim" ∷ []) first ≡ true) × All IsKey keys × IsNoValue word why × ((value : Value) → ¬ (IsValueOf word value))
 Faults words fault.Number = (key : Word) × (word : Word) × (words ≡ codes "add" ∷ key ∷ word ∷ []) × IsKey key × ((number : ℤ) → ¬ (Reads word number))
 Faults words fault.Server = (word : Word) × (words ≡ codes "at" ∷ word ∷ []) × ((server : ServerId) → ¬ (ReadsServer word server))
+Faults words fault.Name = (word : Word) × (words ≡ codes "became" ∷ word ∷ []) × ((wid : Wid) → ¬ (ReadsName word wid))
 Faults words fault.OutOfMemory = Unit {0}
 
 -- the line says nothing, for this fault; memory may run out

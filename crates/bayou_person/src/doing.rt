@@ -113,6 +113,8 @@ impl Wish {
             Wish::Get { .. }
             | Wish::At(_)
             | Wish::List
+            | Wish::Rows { .. }
+            | Wish::Became(_)
             | Wish::Servers
             | Wish::Session
             | Wish::Dump => return Ok(None),

@@ -10,6 +10,7 @@
 
 pub mod doing;
 pub mod laws;
+mod name;
 mod number;
 pub mod reading;
 pub mod wish;

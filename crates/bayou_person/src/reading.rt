@@ -11,6 +11,7 @@ ghost use Rattle.bayou_person.specs.Wishes.{Faults, IsFaultOf, IsValueOf, Reads,
 ghost use Rattle.serde_json.specs.Read.{read as json_of};
 ghost use Rattle.serde_json.specs.View.{view};
 
+use crate::name::name_in;
 use crate::number::{looks_like_number, number_in};
 use crate::wish::{ValueFault, Wish, WishFault};
 use crate::words::{begins_quoted, words_in};
@@ -179,18 +180,21 @@ fn claim_in(alloc: Global, behind: &[&str]) -> Result<Wish, WishFault>
     }
 }
 
-fn get_of(key: &str) -> Result<Wish, WishFault>
-    ensures { MatchResult result (Says (codes "get" ∷ key.now ∷ [])) (Faults (codes "get" ∷ key.now ∷ [])) }
+fn get_of(key: &str, others: &[&str]) -> Result<Wish, WishFault>
+    requires { length others.now ≤ MAX_ALTERNATIVES }
+    ensures { MatchResult result (Says (codes "get" ∷ key.now ∷ map (λ word. word.now) others.now))
+        (Faults (codes "get" ∷ key.now ∷ map (λ word. word.now) others.now)) }
 {
     let key = key_in(key)?;
-    Ok(Wish::Get { key })
+    let others = keys_in(others)?;
+    Ok(Wish::Get { key, others })
 }
 
 fn get_in(behind: &[&str]) -> Result<Wish, WishFault>
     ensures { MatchResult result (Says (codes "get" ∷ map (λ word. word.now) behind.now)) (Faults (codes "get" ∷ map (λ word. word.now) behind.now)) }
 {
     match behind {
-        [key] => get_of(key),
+        [key, others @ ..] if others.len() <= MAX_ALTERNATIVES => get_of(key, others),
         _ => Err(WishFault::Count),
     }
 }
@@ -210,13 +214,35 @@ fn at_in(behind: &[&str]) -> Result<Wish, WishFault>
     }
 }
 
+fn rows_of(prefix: &str) -> Result<Wish, WishFault>
+    ensures { MatchResult result (Says (codes "list" ∷ prefix.now ∷ [])) (Faults (codes "list" ∷ prefix.now ∷ [])) }
+{
+    let prefix = key_in(prefix)?;
+    Ok(Wish::Rows { prefix })
+}
+
 fn list_in(behind: &[&str]) -> Result<Wish, WishFault>
     ensures { MatchResult result (Says (codes "list" ∷ map (λ word. word.now) behind.now)) (Faults (codes "list" ∷ map (λ word. word.now) behind.now)) }
 {
-    if behind.is_empty() {
-        Ok(Wish::List)
-    } else {
-        Err(WishFault::Count)
+    match behind {
+        [] => Ok(Wish::List),
+        [prefix] => rows_of(prefix),
+        _ => Err(WishFault::Count),
+    }
+}
+
+fn became_of(word: &str) -> Result<Wish, WishFault>
+    ensures { MatchResult result (Says (codes "became" ∷ word.now ∷ [])) (Faults (codes "became" ∷ word.now ∷ [])) }
+{
+    Ok(Wish::Became(name_in(word)?))
+}
+
+fn became_in(behind: &[&str]) -> Result<Wish, WishFault>
+    ensures { MatchResult result (Says (codes "became" ∷ map (λ word. word.now) behind.now)) (Faults (codes "became" ∷ map (λ word. word.now) behind.now)) }
+{
+    match behind {
+        [word] => became_of(word),
+        _ => Err(WishFault::Count),
     }
 }
 
@@ -264,6 +290,7 @@ fn wish_of(alloc: Global, words: &[&str]) -> Result<Wish, WishFault>
         "get" => get_in(behind),
         "at" => at_in(behind),
         "list" => list_in(behind),
+        "became" => became_in(behind),
         "servers" => servers_in(behind),
         "session" => session_in(behind),
         "dump" => dump_in(behind),

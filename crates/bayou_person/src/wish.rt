@@ -1,5 +1,5 @@
 use arrayvec::ArrayVec;
-use bayou_base::{Key, KeyFault, MAX_ALTERNATIVES, ServerId, Value};
+use bayou_base::{Key, KeyFault, MAX_ALTERNATIVES, ServerId, Value, Wid};
 use std::alloc::AllocError;
 use thiserror::Error;
 
@@ -26,14 +26,21 @@ pub enum Wish {
         others: ArrayVec<Key, MAX_ALTERNATIVES>,
         value: Value,
     },
-    /// To read the key.
+    /// To read these keys: the first is `key`, and the others stand behind it.
     Get {
         key: Key,
+        others: ArrayVec<Key, MAX_ALTERNATIVES>,
     },
     /// To ask this server first from here on.
     At(ServerId),
     /// To be told the whole database.
     List,
+    /// To be told the rows of the database whose keys begin so.
+    Rows {
+        prefix: Key,
+    },
+    /// To be told what became of this Write.
+    Became(Wid),
     /// To be told which servers there are, and what they hold.
     Servers,
     /// To be told what the session read and wrote.
@@ -77,6 +84,9 @@ pub enum WishFault {
     /// The word that is to be a server isn't the number of one.
     #[error("bad server; servers have the numbers 0 to 15")]
     Server,
+    /// The word that is to be the name of a Write isn't one, as it is spelled.
+    #[error("bad name; a Write's name is the number of its server, a colon and its own number, as 0:12")]
+    Name,
     /// Memory ran out.
     #[error("memory")]
     OutOfMemory,

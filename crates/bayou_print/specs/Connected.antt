@@ -1,8 +1,12 @@
 -- The lines of a person at a store: this project's own.
-use Rattle.std.specs.Prelude.{ℕ, List, ◌++◌, Option, None, Some, codes, decimal, sum}
+use Rattle.std.specs.Prelude.{ℕ, Bool, true, false, List, [], ◌++◌, Option, None, Some, codes, decimal, sum}
 use Rattle.bayou_base.specs.declared.value.Value.{Value}
+use Rattle.bayou_base.specs.declared.wid.Wid.{Wid}
 use Rattle.bayou_print.specs.declared.connected.Holds.{Holds}
 use Rattle.bayou_print.specs.Printed.{counts_text, value_text}
+use Rattle.bayou_wire.specs.declared.lookup.Became.{Became}
+use Rattle.bayou_wire.specs.declared.lookup.Became.TheVariants.{Updated, Merged, Nothing}
+use Rattle.bayou_wire.specs.declared.lookup.Placed.{Placed}
 
 -- no server was reached, and nothing was sent
 abbrev pub away_text : (session : ℕ) → List ℕ
@@ -23,9 +27,35 @@ server_text server servers (Some held) =
 abbrev pub row_text : (key : List ℕ) → Option Value → List ℕ
 row_text key value = key ++ (codes " " ++ (value_text value ++ codes "\n"))
 
--- how many keys of a server have a value
-abbrev pub listed_keys_text : (server keys : ℕ) → List ℕ
-listed_keys_text server keys = codes "list " ++ (decimal server ++ (codes " keys " ++ (decimal keys ++ codes "\n")))
+-- whether rows are told as they stood at more than one time
+abbrev pub mixed_text : Bool → List ℕ
+mixed_text true = codes " mixed"
+mixed_text false = []
+
+-- how many keys were told, and what was held then
+abbrev pub told_text : (keys : ℕ) → Bool → (servers : ℕ) → (vector : List ℕ) → List ℕ
+told_text keys is_mixed servers vector = decimal keys ++ (mixed_text is_mixed ++ (codes " at " ++ (counts_text servers vector ++ codes "\n")))
+
+-- the end of a list of rows: what their keys begin with, if only such were asked for, and how many there are
+abbrev pub rows_text : (prefix : Option (List ℕ)) → (keys : ℕ) → Bool → (servers : ℕ) → (vector : List ℕ) → List ℕ
+rows_text None keys is_mixed servers vector = codes "list keys " ++ told_text keys is_mixed servers vector
+rows_text (Some prefix) keys is_mixed servers vector = codes "list " ++ (prefix ++ (codes " keys " ++ told_text keys is_mixed servers vector))
+
+-- what was applied of a Write: its update, this alternative, from 1 on, or nothing
+abbrev pub applied_text : Became → List ℕ
+applied_text Updated = codes " update\n"
+applied_text (Merged alternative) = codes " merge " ++ (decimal alternative ++ codes "\n")
+applied_text Nothing = codes " none\n"
+
+-- that is unknown where the Write isn't held
+abbrev pub fate_text : Option Placed → List ℕ
+fate_text None = codes " unknown\n"
+fate_text (Some placed) = applied_text placed.became
+
+-- what became of a Write, which a session asked for
+abbrev pub became_text : (session : ℕ) → Wid → Option Placed → List ℕ
+became_text session wid placed =
+    decimal session ++ (codes " became " ++ (decimal wid.origin.index ++ (codes ":" ++ (decimal wid.seq ++ fate_text placed))))
 
 -- how many Writes of a server went into the book, or that it sent nothing
 abbrev pub dumped_text : (server : ℕ) → Option ℕ → List ℕ

@@ -1,10 +1,11 @@
 //! The lines of a person at a store.
-ghost use Rattle.std.specs.Prelude.{◌≡◌, ◌≤◌, IfOk, string_bytes, sum};
+ghost use Rattle.std.specs.Prelude.{◌≡◌, ◌≤◌, IfOk, option_copied, string_bytes, sum};
 ghost use Rattle.bayou_base.specs.declared.limits.TheConstants.{SERVERS};
-ghost use Rattle.bayou_print.specs.Connected.{away_text, dumped_text, listed_keys_text, row_text, seat_text, server_text};
+ghost use Rattle.bayou_print.specs.Connected.{away_text, became_text, dumped_text, mixed_text, row_text, rows_text, seat_text, server_text};
 
 use crate::printed::{Counts, found};
-use bayou_base::{Key, ServerId, SessionId, Value, Vector};
+use bayou_base::{Key, ServerId, SessionId, Value, Vector, Wid};
+use bayou_wire::{Became, Placed};
 use std::alloc::{AllocError, Global};
 
 /// What a reopening prints whose server isn't reached.
@@ -74,12 +75,58 @@ pub fn row_line(alloc: Global, key: &Key, value: &Option<Value>) -> Result<Strin
     format!(in alloc; "{key} {found}\n")
 }
 
-/// The line behind all keys of a server that have a value: how many there are.
-pub fn listed_keys_line(alloc: Global, server: ServerId, keys: usize) -> Result<String, AllocError>
-    ensures { IfOk result (λ line. string_bytes line ≡ listed_keys_text server.index keys) }
+// That rows are told as they stood at more than one time, where they are.
+fn mixed_word(is_mixed: bool) -> &'static str
+    ensures { result.now ≡ mixed_text is_mixed }
 {
-    let server = server.index;
-    format!(in alloc; "list {server} keys {keys}\n")
+    if is_mixed { " mixed" } else { "" }
+}
+
+/// The line behind the rows of a list: what their keys begin with, if only such were asked for, how many keys they are, whether they are told as they
+/// stood at more than one time, and what was held then.
+pub fn rows_line(
+    alloc: Global,
+    prefix: Option<&Key>,
+    keys: usize,
+    is_mixed: bool,
+    servers: u8,
+    vector: &Vector,
+) -> Result<String, AllocError>
+    requires { servers ≤ SERVERS }
+    ensures { IfOk result (λ line. string_bytes line ≡ rows_text (option_copied prefix.entry) keys is_mixed servers vector.now) }
+{
+    let mixed = mixed_word(is_mixed);
+    let counts = Counts { vector, servers };
+    match prefix {
+        None => format!(in alloc; "list keys {keys}{mixed} at {counts}\n"),
+        Some(prefix) => {
+            let prefix = prefix.as_str();
+            format!(in alloc; "list {prefix} keys {keys}{mixed} at {counts}\n")
+        }
+    }
+}
+
+/// The line of what became of a Write, as a server tells it that holds it, or that it is unknown.
+pub fn became_line(
+    alloc: Global,
+    session: SessionId,
+    wid: Wid,
+    placed: &Option<Placed>,
+) -> Result<String, AllocError>
+    ensures { IfOk result (λ line. string_bytes line ≡ became_text session.index wid placed.now) }
+{
+    let session = session.index;
+    let (origin, seq) = (wid.origin.index, wid.seq);
+    let Some(placed) = placed else {
+        return format!(in alloc; "{session} became {origin}:{seq} unknown\n");
+    };
+    match placed.became {
+        Became::Updated => format!(in alloc; "{session} became {origin}:{seq} update\n"),
+        Became::Merged(alternative) => format!(in alloc;
+            "{session} became {origin}:{seq} merge {alternative}\n"
+        ),
+        Became::Nothing => format!(in alloc; "{session} became {origin}:{seq} none\n"),
+    }
 }
 
 /// The line of what a server sent into the book.

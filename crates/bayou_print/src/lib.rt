@@ -25,8 +25,8 @@ pub mod writing;
 
 pub use book::{Entries, Holding, servers_line};
 pub use connected::{
-    Holds, LIST_LOST, REOPEN_AWAY, away_line, dumped_line, listed_keys_line, row_line, seat_line,
-    server_line,
+    Holds, LIST_LOST, REOPEN_AWAY, away_line, became_line, dumped_line, row_line, rows_line,
+    seat_line, server_line,
 };
 pub use ended::Ended;
 pub use fault::RunFault;

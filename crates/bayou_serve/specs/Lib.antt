@@ -3,6 +3,7 @@ pub mod Choosing
 pub mod Faults
 pub mod Fullness
 pub mod Lived
+pub mod Lookups
 pub mod Losing
 pub mod Marks
 pub mod News

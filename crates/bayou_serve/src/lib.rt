@@ -21,6 +21,7 @@ mod hall;
 pub mod held_digests;
 mod keeper;
 mod lines;
+mod lookups;
 mod marking;
 pub mod notice;
 pub mod pace;

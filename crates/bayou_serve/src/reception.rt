@@ -8,6 +8,7 @@ use crate::answering::answer_guest;
 use crate::comparing::Comparison;
 use crate::greeting::{LetIn, receive_guest};
 use crate::hall::Hall;
+use crate::lookups::{Next, answer_lookups};
 use crate::peers::is_timed;
 use crate::rooms::{Place, Rooms};
 use crate::teller::Teller;
@@ -48,11 +49,11 @@ pub(crate) struct Reception<'a, D, L: Desks, C, E> {
 /// That requests of a connection may reach the node: who asks greeted, was let in and was told what is held; or the store is open. Nothing is served
 /// without one.
 #[derive(Drop)]
-struct Admission<'a> {
-    own: &'a StoreServer,
-    let_in: Option<LetIn>,
+pub(crate) struct Admission<'a> {
+    pub(crate) own: &'a StoreServer,
+    pub(crate) let_in: Option<LetIn>,
     /// Whether it is a peer that asks.
-    is_peer: bool,
+    pub(crate) is_peer: bool,
     ghost may_ask: { MayAsk own.now let_in } by { Prim.hlevel props },
 }
 
@@ -61,6 +62,32 @@ struct Admission<'a> {
 struct Received<L: Desks> {
     desk: Desk<L>,
     is_silent: bool,
+}
+
+/// What is heard and told by the streams of a connection that has a place.
+pub(crate) type PlacedChannel<'a, R, W, C> = CountedChannel<
+    Patient<Heard<'a, R, C>, Waiting<'a, C>>,
+    Told<'a, W, Waiting<'a, C>, C>,
+>;
+
+/// The channel over these streams, whose waits end by `WouldBlock`: both are waited for as long as the place is kept.
+pub(crate) fn channel_over<'a, C: Clock, R, W>(
+    hall: &'a Hall,
+    clock: &'a C,
+    place: &'a Place,
+    reader: R,
+    writer: W,
+) -> PlacedChannel<'a, R, W, C>
+    ensures reader { result.reader.reader.reader.reader ≡ reader }
+    ensures writer { result.writer.writer ≡ writer }
+{
+    let most = Most::Placed(hall.idle_milliseconds(), place);
+    let patience = Waiting::new(clock, hall, &place.since, most);
+    let heard = Heard::new(reader, clock, place);
+    let reader = Patient::new(heard, patience);
+    let patience = Waiting::new(clock, hall, &place.since, most);
+    let writer = Told::new(writer, patience, clock, place);
+    CountedChannel::new(reader, writer)
 }
 
 // Serves the requests that come in time over these streams, whose waits end by `WouldBlock`, of who may ask; Writes as long as the hall gives leave.
@@ -81,13 +108,7 @@ fn serve_over<D: Device, L: Desks, C: Clock, R: Read + Drop, W: Write + Drop, T:
     ensures served { ServedOver L.begun desk result.desk (R.remaining reader) (W.contents writer) }
 {
     let _ = admission;
-    let most = Most::Placed(hall.idle_milliseconds(), place);
-    let patience = Waiting::new(clock, hall, &place.since, most);
-    let heard = Heard::new(reader, clock, place);
-    let reader = Patient::new(heard, patience);
-    let patience = Waiting::new(clock, hall, &place.since, most);
-    let writer = Told::new(writer, patience, clock, place);
-    let mut channel = CountedChannel::new(reader, writer);
+    let mut channel = channel_over(hall, clock, place, reader, writer);
     let (answer, desk) = serve_with_leave(rt, alloc, node, desk, &NoGate, hall, &mut channel);
     Received {
         desk,
@@ -219,6 +240,23 @@ impl<D: Device, L: Desks, C: Clock + RandomSource, E: Write> Reception<'_, D, L,
         }
     }
 
+    // Answers what is asked beside one key, of who greeted: what comes then.
+    fn answer_lookups<T: Wait>(
+        &self,
+        rt: &T,
+        alloc: Global,
+        admission: &Admission<'_>,
+        place: &Place,
+        stream: &TcpStream,
+    ) -> Next {
+        match &admission.let_in {
+            Some(_) => answer_lookups(
+                rt, alloc, self.node, admission, self.hall, self.clock, place, stream,
+            ),
+            None => Next::Request,
+        }
+    }
+
     // Serves the requests that come in time, and then says that no more replies come.
     fn serve_requests<T: Wait>(
         &self,
@@ -229,9 +267,15 @@ impl<D: Device, L: Desks, C: Clock + RandomSource, E: Write> Reception<'_, D, L,
         place: &Place,
         stream: &TcpStream,
     ) -> Received<L> {
-        let received = serve_over(
-            rt, alloc, self.node, desk, admission, self.hall, self.clock, place, stream, stream,
-        );
+        let received = match self.answer_lookups(rt, alloc, admission, place, stream) {
+            Next::Request => serve_over(
+                rt, alloc, self.node, desk, admission, self.hall, self.clock, place, stream, stream,
+            ),
+            next => Received {
+                desk,
+                is_silent: next == Next::Nothing,
+            },
+        };
         let _ = stream.shutdown(Shutdown::Write);
         received
     }

@@ -2,6 +2,7 @@ pub mod Faults
 pub mod Honest
 pub mod Inner
 pub mod Laws
+pub mod Lookups
 pub mod Reads
 pub mod Reopens
 pub mod Server

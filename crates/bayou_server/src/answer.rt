@@ -1,11 +1,14 @@
 ghost use Rattle.std.specs.Prelude.{◌≡◌, IfOk, MatchOption, None, Some};
 ghost use Rattle.bayou_lang.specs.Writes.{count_of};
+ghost use Rattle.bayou_server.specs.Lookups.{became_of as became, fate_of, placed_of as placed};
 
 use crate::fault::TakeFault;
 use crate::holding::Holding;
 use crate::server::copies;
 use bayou_base::{Accepted, Tag, Vector, Wid};
-use bayou_lang::RestingWrite;
+use bayou_lang::{Outcome, RestingWrite};
+use bayou_log::Listed;
+use bayou_wire::{Became, Fate, Placed};
 use std::alloc::{AllocError, Global};
 use std::marker::Model;
 
@@ -16,6 +19,49 @@ pub enum Written {
     New(Accepted),
     /// It was made before, under the same tag, and is held.
     Known(Accepted),
+}
+
+/// What a server answers to whoever asks what became of a Write.
+#[derive(Clone, Copy, Debug, PartialEq, Eq)]
+pub struct Told {
+    /// As what the Write is listed, if it is held.
+    pub listed: Option<Listed>,
+    /// What the server held as it answered.
+    pub vector: Vector,
+}
+
+fn became_of(outcome: Outcome) -> Became
+    ensures { result ≡ became outcome }
+{
+    match outcome {
+        Outcome::Updated => Became::Updated,
+        Outcome::Merged(number) => Became::Merged(number.saturating_add(1)),
+        Outcome::Nothing => Became::Nothing,
+    }
+}
+
+fn placed_of(listed: Option<Listed>) -> Option<Placed>
+    ensures { result ≡ placed listed }
+{
+    let Some(listed) = listed else {
+        return None;
+    };
+    Some(Placed {
+        became: became_of(listed.outcome),
+        clock: listed.stamp.clock,
+    })
+}
+
+impl Told {
+    /// What is said of it over a channel. No program has so many alternatives that one isn't told by its number.
+    pub fn fate(&self) -> Fate
+        ensures { result ≡ fate_of self.now }
+    {
+        Fate {
+            vector: self.vector,
+            placed: placed_of(self.listed),
+        }
+    }
 }
 
 /// What a server that was given a Write did with it.

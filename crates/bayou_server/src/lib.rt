@@ -50,6 +50,6 @@ mod storing;
 mod taking;
 mod together;
 
-pub use answer::{LastHeld, RefusedWrite, Reopened, Stopped, Took, TookAll, Written};
+pub use answer::{LastHeld, RefusedWrite, Reopened, Stopped, Told, Took, TookAll, Written};
 pub use fault::{Behind, JournalFault, NotStarted, ReopenFault, StartFault, TakeFault, WriteFault};
 pub use server::Server;

@@ -1,4 +1,4 @@
-ghost use Rattle.std.specs.Prelude.{◌≡◌, ◌≢◌, ◌+◌, ◌<◌, ◌≤◌, ◌^◌, ◌↔◌, ◌⊎◌, ℕ, [], None, All, Contains, Err, IfErr, IfOk, IsSome, IsTrue, MatchOption, MatchResult, OnOk, drop, length, take};
+ghost use Rattle.std.specs.Prelude.{◌≡◌, ◌≢◌, ◌+◌, ◌<◌, ◌≤◌, ◌^◌, ◌↔◌, ◌⊎◌, ℕ, [], None, All, Contains, Err, IfErr, IfOk, IsSome, IsTrue, MatchOption, MatchResult, OnOk, drop, length, option_copied, take};
 ghost use Rattle.std.specs.Borrow.{Lends, sem};
 ghost use Rattle.std.specs.Vec.Iter.{into_iter_items};
 ghost use Rattle.bayou_base.specs.declared.limits.TheConstants.{SERVERS, MAX_WRITES};
@@ -6,6 +6,7 @@ ghost use Rattle.bayou_journal.specs.Opening.{KeepsChains};
 ghost use Rattle.bayou_lang.specs.Writes.{count_of, lacking_of};
 ghost use Rattle.bayou_log.specs.Listing.{listing_of};
 ghost use Rattle.bayou_server.specs.contracts.server.Server.{the_row};
+ghost use Rattle.bayou_server.specs.Lookups.{AsksAfter, Lists};
 ghost use Rattle.bayou_server.specs.Reads.{Reads};
 ghost use Rattle.bayou_server.specs.Reopens.{ReopensAll, own_adopted};
 ghost use Rattle.bayou_server.specs.Server.{IsSoundServer, holds_of, own_count, with_device};
@@ -17,7 +18,7 @@ ghost use Rattle.bayou_server.specs.TakesAll.{TakesAll, TakesAt};
 ghost use Rattle.bayou_server.specs.Writes.{Writes, own_made};
 ghost use Rattle.bayou_tags.specs.Tags.{IsGreatestRun};
 
-use crate::answer::{LastHeld, Reopened, Stopped, Took, TookAll, Written};
+use crate::answer::{LastHeld, Reopened, Stopped, Told, Took, TookAll, Written};
 use crate::fault::{Behind, NotStarted, ReopenFault, StartFault, TakeFault, WriteFault};
 use crate::holding::Holding;
 use crate::making::{accepted, answered};
@@ -27,12 +28,14 @@ use crate::start::holding_of;
 use crate::storing::{Stored, store};
 use crate::taking::{take_one, take_several};
 use crate::together::take_meanwhile;
-use bayou_base::{Key, Seen, ServerId, Tag, Vector, Wid};
+use arrayvec::ArrayVec;
+use bayou_base::{Key, Prefix, Seen, ServerId, Tag, Vector, Wid};
 use bayou_device::Device;
 use bayou_journal::Journal;
 use bayou_journal::laws::an_honest_device_opens_honestly;
 use bayou_lang::{RestingProgram, RestingWrite};
 use bayou_log::Listed;
+use bayou_wire::Page;
 use std::alloc::{AllocError, Global};
 use std::collections::VecDeque;
 use std::marker::Model;
@@ -125,6 +128,41 @@ impl<D: Device> Server<D> {
         } else {
             Err(Behind { vector })
         }
+    }
+
+    /// The first of the rows whose keys begin so and come after this one, if there is one, in the order of keys, in the database of the Writes
+    /// held: so many at the most, and as many as fit into a page. It tells whether one is left behind them, and what is held; also while the
+    /// server is down. It takes no memory.
+    pub fn list(
+        &self,
+        need: &Vector,
+        prefix: &Prefix,
+        after: Option<&Key>,
+        most: u16,
+    ) -> Result<Page, Behind>
+        ensures { Lists self.now.core need.now prefix.now (option_copied after.entry) most result }
+    {
+        let vector = self.holding.log.vector();
+        if !vector.dominates(need) {
+            return Err(Behind { vector });
+        }
+        let mut rows = ArrayVec::new();
+        let most = usize::from(most);
+        let more = self.holding.log.list(prefix, after, most, &mut rows);
+        Ok(Page { vector, more, rows })
+    }
+
+    /// What became of the Write of this name, as [`Server::listing`] tells it, if it is held, and what is held; also while the server is down.
+    /// It takes no memory, and looks at a few of the Writes, however many are held.
+    pub fn became(&self, need: &Vector, wid: Wid) -> Result<Told, Behind>
+        ensures { AsksAfter self.now.core need.now wid result }
+    {
+        let vector = self.holding.log.vector();
+        if !vector.dominates(need) {
+            return Err(Behind { vector });
+        }
+        let listed = self.holding.log.outcome_of(wid);
+        Ok(Told { listed, vector })
     }
 
     /// Makes the program the server's next Write, stores its entry, and then holds it under the tag. Where a Write is held under it already,

@@ -19,7 +19,8 @@ use Rattle.bayou_wire.specs.declared.greeting.ServerCount.{ServerCount}
 use Rattle.bayou_wire.specs.declared.greeting.Welcome.{Welcome}
 use Rattle.bayou_wire.specs.declared.layout.TheConstants as layout
 use Rattle.bayou_wire.specs.Digests.{AreDigests, IsDigest}
-use Rattle.bayou_wire.specs.Spelling.{list_bytes, packed, short_bytes, u32_bytes, vector_bytes}
+use Rattle.bayou_wire.specs.Lookups.{IsFate, IsFateAsked, IsPage, IsRowsAsked, fate_asked_bytes, fate_bytes, optional_key_bytes, page_bytes, rows_asked_bytes}
+use Rattle.bayou_wire.specs.Spelling.{list_bytes, packed, u32_bytes, vector_bytes}
 use Rattle.bayou_wire.specs.Stream.{HasLength, IsFaulty, IsPartial, Packs}
 
 -- ---- values
@@ -37,11 +38,6 @@ optional_server_bytes (Some server) = server.index ∷ []
 abbrev pub optional_count_bytes : Option ServerCount → List ℕ
 optional_count_bytes None = layout.ANY_COUNT ∷ []
 optional_count_bytes (Some servers) = servers.count ∷ []
-
--- no name has no byte
-abbrev pub optional_name_bytes : Option (List ℕ) → List ℕ
-optional_name_bytes None = short_bytes []
-optional_name_bytes (Some name) = short_bytes name
 
 -- that there is none, or that there is one, and it
 abbrev pub optional_bytes : {T : Type 0} → (T → List ℕ) → Option T → List ℕ
@@ -63,7 +59,7 @@ hello_bytes hello =
 
 abbrev pub welcome_bytes : Welcome → List ℕ
 welcome_bytes welcome =
-    welcome.version ∷ (welcome.id.index ∷ (welcome.servers.count ∷ (optional_name_bytes welcome.name ++ (welcome.nonce ++ welcome.proof))))
+    welcome.version ∷ (welcome.id.index ∷ (welcome.servers.count ∷ (optional_key_bytes welcome.name ++ (welcome.nonce ++ welcome.proof))))
 
 abbrev pub proving_bytes : Proving → List ℕ
 proving_bytes given = given.proof ++ optional_bytes held_bytes given.held
@@ -82,6 +78,10 @@ greeting_kind (greetings.Welcome welcome) = layout.KIND_WELCOME
 greeting_kind (greetings.Known known) = layout.KIND_KNOWN
 greeting_kind (greetings.Differs origin) = layout.KIND_DIFFERS
 greeting_kind (greetings.Digested digests) = layout.KIND_DIGESTED
+greeting_kind (greetings.List asked) = layout.KIND_LIST
+greeting_kind (greetings.Became asked) = layout.KIND_BECAME
+greeting_kind (greetings.Listed page) = layout.KIND_LISTED
+greeting_kind (greetings.Outcome fate) = layout.KIND_OUTCOME
 
 abbrev pub greeting_payload : Greeting → List ℕ
 greeting_payload (greetings.Hello hello) = hello_bytes hello
@@ -91,6 +91,10 @@ greeting_payload (greetings.Welcome welcome) = welcome_bytes welcome
 greeting_payload (greetings.Known known) = known_bytes known
 greeting_payload (greetings.Differs origin) = origin.index ∷ []
 greeting_payload (greetings.Digested digests) = list_bytes digest_bytes digests.items
+greeting_payload (greetings.List asked) = rows_asked_bytes asked
+greeting_payload (greetings.Became asked) = fate_asked_bytes asked
+greeting_payload (greetings.Listed page) = page_bytes page
+greeting_payload (greetings.Outcome fate) = fate_bytes fate
 
 abbrev pub greeting_bytes : Greeting → List ℕ
 greeting_bytes greeting = packed (greeting_kind greeting) (greeting_payload greeting)
@@ -129,6 +133,10 @@ IsGreeting (greetings.Welcome welcome) = IsWelcome welcome
 IsGreeting (greetings.Known known) = IsKnown known
 IsGreeting (greetings.Differs origin) = Unit {0}
 IsGreeting (greetings.Digested digests) = AreAtMost layout.DIGESTS_AT_ONCE IsDigest digests.items
+IsGreeting (greetings.List asked) = IsRowsAsked asked
+IsGreeting (greetings.Became asked) = IsFateAsked asked
+IsGreeting (greetings.Listed page) = IsPage page
+IsGreeting (greetings.Outcome fate) = IsFate fate
 
 -- ---- whole inputs
 

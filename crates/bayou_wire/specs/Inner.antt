@@ -1,2 +1,3 @@
 pub mod Greetings
 pub mod Reading
+pub mod Lookups

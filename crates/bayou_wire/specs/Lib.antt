@@ -3,6 +3,7 @@ pub mod Forms
 pub mod Greetings
 pub mod Inner
 pub mod Laws
+pub mod Lookups
 pub mod Records
 pub mod Spelling
 pub mod Stream

@@ -3,6 +3,7 @@ ghost use Rattle.bayou_base.specs.declared.limits.TheConstants.{SERVERS};
 
 use crate::digests::Digests;
 use crate::layout::DIGESTS_AT_ONCE;
+use crate::lookup::{Fate, FateAsked, Page, RowsAsked};
 use crate::nonce::Nonce;
 use crate::proof::Proof;
 use arrayvec::ArrayVec;
@@ -92,7 +93,8 @@ pub struct Inquiry {
     pub counts: ArrayVec<u32, DIGESTS_AT_ONCE>,
 }
 
-/// What two ends say to each other before they are known: the requests, and then their replies. No [`crate::Frame`] has one of their kinds.
+/// What two ends say to each other before they are known, and what only they ask who have greeted: the requests, and then their replies. No
+/// [`crate::Frame`] has one of their kinds.
 #[derive(Debug, Drop, PartialEq, Eq)]
 pub enum Greeting {
     /// This greets.
@@ -101,6 +103,10 @@ pub enum Greeting {
     Proof(Proving),
     /// Send these digests.
     Digests(Inquiry),
+    /// Send these rows.
+    List(RowsAsked),
+    /// Say what became of this Write.
+    Became(FateAsked),
     /// This is greeted.
     Welcome(Welcome),
     /// Who greets is known.
@@ -109,4 +115,8 @@ pub enum Greeting {
     Differs(ServerId),
     /// The digests asked for, in the order of their counts, up to the first count that isn't held.
     Digested(ArrayVec<u64, DIGESTS_AT_ONCE>),
+    /// The rows asked for.
+    Listed(Page),
+    /// What became of the Write.
+    Outcome(Fate),
 }

@@ -3,20 +3,20 @@ ghost use Rattle.std.specs.Prelude.{◌≡◌, ◌<◌, ◌≤◌, ◌+◌, ◌^
 ghost use Rattle.std.specs.List.{flat_map, AllByRecursion};
 ghost use Rattle.std.specs.Option.{IfSome};
 ghost use Rattle.bayou_base.specs.declared.limits.TheConstants.{MAX_FRAME_BYTES};
-ghost use Rattle.bayou_lang.specs.Ranges.{IsKey};
 ghost use Rattle.bayou_wire.specs.declared.layout.TheConstants.{LENGTH_BYTES};
 ghost use Rattle.bayou_wire.specs.Digests.{AreDigests, IsDigest};
-ghost use Rattle.bayou_wire.specs.Greetings.{IsProving, IsGreeting, IsHeld, IsHello, IsInquiry, IsKnown, IsNonce, IsProof, IsWelcome, SpellsGreeting, digest_bytes, digests_bytes, greeting_kind, greeting_payload, held_bytes, hello_bytes, inquiry_bytes, known_bytes, optional_bytes, optional_count_bytes, optional_name_bytes, optional_server_bytes, proving_bytes, welcome_bytes};
+ghost use Rattle.bayou_wire.specs.Greetings.{IsProving, IsGreeting, IsHeld, IsHello, IsInquiry, IsKnown, IsNonce, IsProof, IsWelcome, SpellsGreeting, digest_bytes, digests_bytes, greeting_kind, greeting_payload, held_bytes, hello_bytes, inquiry_bytes, known_bytes, optional_bytes, optional_count_bytes, optional_server_bytes, proving_bytes, welcome_bytes};
 ghost use Rattle.bayou_wire.specs.Spelling.{u32_bytes};
 
 use crate::digests::Digests;
 use crate::encode::{USUAL_BYTES, packed_bytes};
 use crate::greeting::{Greeting, Held, Hello, Inquiry, Known, Proving, ServerCount, Welcome};
 use crate::layout::*;
+use crate::lookup_put::{put_fate, put_fate_asked, put_optional_key, put_page, put_rows_asked};
 use crate::nonce::Nonce;
 use crate::proof::Proof;
-use crate::put::{Spelled, put_code, put_key, put_list, put_u32, put_vector};
-use bayou_base::{Key, ServerId};
+use crate::put::{Spelled, put_code, put_list, put_u32, put_vector};
+use bayou_base::ServerId;
 use std::alloc::{AllocError, Global};
 
 fn put_digest(out: &mut Vec<u8>, digest: u64) -> Result<(), AllocError>
@@ -92,15 +92,6 @@ fn put_optional_count(out: &mut Vec<u8>, servers: Option<ServerCount>) -> Result
     }
 }
 
-fn put_optional_name(out: &mut Vec<u8>, name: &Option<Key>) -> Result<(), AllocError>
-    ensures { OnOk result (IfSome name.now IsKey × (out.new.items ≡ out.old.items ++ optional_name_bytes name.now)) }
-{
-    match name {
-        None => put_code(out, 0),
-        Some(name) => put_key(out, name),
-    }
-}
-
 fn put_held(out: &mut Vec<u8>, held: &Held) -> Result<(), AllocError>
     ensures { OnOk result (IsHeld held.now × (out.new.items ≡ out.old.items ++ held_bytes held.now)) }
 {
@@ -148,7 +139,7 @@ fn put_welcome(out: &mut Vec<u8>, welcome: &Welcome) -> Result<(), AllocError>
     put_code(out, welcome.version)?;
     put_code(out, welcome.id.index)?;
     put_code(out, welcome.servers.count)?;
-    put_optional_name(out, &welcome.name)?;
+    put_optional_key(out, &welcome.name)?;
     put_nonce(out, &welcome.nonce)?;
     put_proof(out, &welcome.proof)
 }
@@ -186,6 +177,10 @@ fn put_greeting(out: &mut Vec<u8>, greeting: &Greeting) -> Result<(), AllocError
         Greeting::Known(known) => put_known(out, known),
         Greeting::Differs(origin) => put_code(out, origin.index),
         Greeting::Digested(digests) => put_list(out, digests.as_slice()),
+        Greeting::List(asked) => put_rows_asked(out, asked),
+        Greeting::Became(asked) => put_fate_asked(out, asked),
+        Greeting::Listed(page) => put_page(out, page),
+        Greeting::Outcome(fate) => put_fate(out, fate),
     }
 }
 
@@ -200,6 +195,10 @@ fn greeting_kind_byte(greeting: &Greeting) -> u8
         Greeting::Known(_) => KIND_KNOWN,
         Greeting::Differs(_) => KIND_DIFFERS,
         Greeting::Digested(_) => KIND_DIGESTED,
+        Greeting::List(_) => KIND_LIST,
+        Greeting::Became(_) => KIND_BECAME,
+        Greeting::Listed(_) => KIND_LISTED,
+        Greeting::Outcome(_) => KIND_OUTCOME,
     }
 }
 

@@ -6,17 +6,18 @@ ghost use Rattle.bayou_wire.specs.declared.fault.DecodeFault.{DecodeFault};
 ghost use Rattle.bayou_wire.specs.declared.greeting.Greeting.{Greeting};
 ghost use Rattle.bayou_wire.specs.declared.layout.TheConstants.{ANY_COUNT, DIGESTS_AT_ONCE, NONCE_BYTES, NO_SERVER, PROOF_BYTES};
 ghost use Rattle.bayou_wire.specs.Greetings.{GreetingAnswer};
-ghost use Rattle.bayou_wire.specs.Inner.Greetings.{IsUnpacked, UnpackedAnswer, count_of as count_of_number, digests_at, fixed_at, greeting_at, greeting_reply_at, held_at, hello_at, inquiry_at, is_greeting_kind as is_greeting_kind_test, known_at, named_at, named_or_at, optional_at, optional_name_at, proving_at, welcome_at};
+ghost use Rattle.bayou_wire.specs.Inner.Greetings.{IsUnpacked, UnpackedAnswer, count_of as count_of_number, digests_at, fixed_at, greeting_at, greeting_reply_at, held_at, hello_at, inquiry_at, is_greeting_kind as is_greeting_kind_test, known_at, named_at, named_or_at, optional_at, proving_at, welcome_at};
 ghost use Rattle.bayou_wire.specs.Inner.Reading.{Gives, list_at, number_at, server_of as server_of_index, times};
 
 use crate::digests::Digests;
 use crate::fault::DecodeFault;
 use crate::greeting::{Greeting, Held, Hello, Inquiry, Known, Proving, ServerCount, Welcome};
 use crate::layout::*;
+use crate::lookup_take::{fate_asked_of, fate_of, optional_key_of, page_of, rows_asked_of};
 use crate::nonce::Nonce;
 use crate::proof::Proof;
-use crate::take::{Member, byte_of, key_of, list_of, members_of, server_from, u32_of, vector_of};
-use bayou_base::{Key, MAX_FRAME_BYTES, SERVERS, ServerId};
+use crate::take::{Member, byte_of, list_of, members_of, server_from, u32_of, vector_of};
+use bayou_base::{MAX_FRAME_BYTES, SERVERS, ServerId};
 
 fn u64_of(bytes: &[u8]) -> Option<(u64, &[u8])>
     ensures { Gives (λ x. (x.0, x.1.now)) result (number_at w64 bytes.now) }
@@ -142,22 +143,6 @@ fn optional_count_of(bytes: &[u8]) -> Option<(Option<ServerCount>, &[u8])>
     }
 }
 
-#[tactic(auto, unfolding(crate::specs::Inner::Greetings::optional_name_at))]
-fn optional_name_of(bytes: &[u8]) -> Option<(Option<Key>, &[u8])>
-    ensures { Gives (λ x. (x.0, x.1.now)) result (optional_name_at bytes.now) }
-{
-    match bytes {
-        [] => None,
-        [0, rest @ ..] => Some((None, rest)),
-        [_, ..] => {
-            let Some((name, rest)) = key_of(bytes) else {
-                return None;
-            };
-            Some((Some(name), rest))
-        }
-    }
-}
-
 fn digests_from(list: &[u64]) -> Digests
     requires { length list.now ≡ SERVERS }
     ensures { result ≡ list.now }
@@ -264,7 +249,7 @@ fn welcome_of(bytes: &[u8]) -> Option<(Welcome, &[u8])>
     let Some((servers, rest)) = count_of(rest) else {
         return None;
     };
-    let Some((name, rest)) = optional_name_of(rest) else {
+    let Some((name, rest)) = optional_key_of(rest) else {
         return None;
     };
     let Some((nonce, rest)) = nonce_of(rest) else {
@@ -344,6 +329,10 @@ fn is_greeting_kind(kind: u8) -> bool
             | KIND_KNOWN
             | KIND_DIFFERS
             | KIND_DIGESTED
+            | KIND_LIST
+            | KIND_BECAME
+            | KIND_LISTED
+            | KIND_OUTCOME
     )
 }
 
@@ -376,6 +365,18 @@ fn greeting_reply_of(kind: u8, bytes: &[u8]) -> Option<(Greeting, &[u8])>
             };
             Some((Greeting::Digested(digests), rest))
         }
+        KIND_LISTED => {
+            let Some((page, rest)) = page_of(bytes) else {
+                return None;
+            };
+            Some((Greeting::Listed(page), rest))
+        }
+        KIND_OUTCOME => {
+            let Some((fate, rest)) = fate_of(bytes) else {
+                return None;
+            };
+            Some((Greeting::Outcome(fate), rest))
+        }
         _ => None,
     }
 }
@@ -403,6 +404,18 @@ fn greeting_of(kind: u8, bytes: &[u8]) -> Option<(Greeting, &[u8])>
                 return None;
             };
             Some((Greeting::Digests(inquiry), rest))
+        }
+        KIND_LIST => {
+            let Some((asked, rest)) = rows_asked_of(bytes) else {
+                return None;
+            };
+            Some((Greeting::List(asked), rest))
+        }
+        KIND_BECAME => {
+            let Some((asked, rest)) = fate_asked_of(bytes) else {
+                return None;
+            };
+            Some((Greeting::Became(asked), rest))
         }
         _ => greeting_reply_of(kind, bytes),
     }

@@ -86,6 +86,23 @@ pub const PROOF_BYTES: usize = 32;
 /// Of how many counts the digests are asked for at once at the most.
 pub const DIGESTS_AT_ONCE: usize = 16;
 
+/// How many rows are told at once at the most: as many as fit into a frame, the longest too.
+pub const ROWS_AT_ONCE: usize = 121;
+
+/// No row is left behind those that are told.
+pub const NONE_LEFT: u8 = 0;
+/// A row is left behind them.
+pub const MORE_LEFT: u8 = 1;
+
+/// A Write that isn't held.
+pub const NOT_HELD: u8 = 0;
+/// A Write whose update was applied.
+pub const WAS_UPDATED: u8 = 1;
+/// A Write of which an alternative was applied, whose number follows, from 1 on.
+pub const WAS_MERGED: u8 = 2;
+/// A Write of which nothing was applied.
+pub const WAS_NOTHING: u8 = 3;
+
 /// No server: a client greets, or any server will do.
 pub const NO_SERVER: u8 = 255;
 /// Any number of servers will do.
@@ -95,6 +112,10 @@ pub const ANY_COUNT: u8 = 0;
 pub const KIND_HELLO: u8 = 0x20;
 /// A greeting's request: the proof of who greets.
 pub const KIND_PROOF: u8 = 0x21;
+/// A request of who has greeted: the rows of these keys.
+pub const KIND_LIST: u8 = 0x22;
+/// A request of who has greeted: what became of a Write.
+pub const KIND_BECAME: u8 = 0x23;
 /// A greeting's request: the digests of an origin's Writes at these counts.
 pub const KIND_DIGESTS: u8 = 0x24;
 /// A greeting's reply: who is greeted.
@@ -103,5 +124,9 @@ pub const KIND_WELCOME: u8 = 0x30;
 pub const KIND_KNOWN: u8 = 0x31;
 /// A greeting's reply: other Writes of this origin are held.
 pub const KIND_DIFFERS: u8 = 0x32;
+/// A reply to who has greeted: what became of the Write.
+pub const KIND_OUTCOME: u8 = 0x33;
 /// A greeting's reply: the digests asked for.
 pub const KIND_DIGESTED: u8 = 0x34;
+/// A reply to who has greeted: the rows asked for.
+pub const KIND_LISTED: u8 = 0x35;

@@ -7,8 +7,9 @@
 //! [`encode_record`] and [`decode_record`] are of a [`Record`], a Write with the tag of its asking, by `specs/Records`: bodies of a
 //! journal's entries, in the [`Form`] of the version. Of a form whose vectors have fewer counts a copy with all of them is read.
 //!
-//! A [`Greeting`] is what two ends say to each other before they are known, by `specs/Greetings`: [`encode_greeting`] and [`decode_greeting`] do
-//! with it as the others do with a frame. It is no frame, and no frame is one: each is a bad kind in the other's place.
+//! A [`Greeting`] is what two ends say to each other before they are known, and what only they ask who have greeted, by `specs/Greetings` and
+//! `specs/Lookups`: [`encode_greeting`] and [`decode_greeting`] do with it as the others do with a frame. It is no frame, and no frame is one: each is a
+//! bad kind in the other's place. A [`Page`] of rows fits into one, however long its keys and values are.
 //!
 //! [`Frames`] reads a stream in pieces: callers see it as the bytes that it holds back, or as nothing once a fault was told.
 //! `specs/Stream` says what stands in a frame's place, and what one call makes of what was held back and the piece; [`laws`]
@@ -31,6 +32,9 @@ mod greeting_put;
 mod greeting_take;
 pub mod laws;
 pub mod layout;
+pub mod lookup;
+mod lookup_put;
+mod lookup_take;
 pub mod nonce;
 mod payload;
 pub mod proof;
@@ -48,6 +52,7 @@ pub use frame::{Frame, PlainFrame};
 pub use greeting::{Greeting, Held, Hello, Inquiry, Known, Proving, ServerCount, Welcome};
 pub use greeting_put::encode_greeting;
 pub use greeting_take::decode_greeting;
+pub use lookup::{Became, Fate, FateAsked, Page, Placed, RowsAsked};
 pub use nonce::Nonce;
 pub use proof::Proof;
 pub use record::{Form, Record, decode_record, encode_record};

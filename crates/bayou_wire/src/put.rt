@@ -61,7 +61,7 @@ pub(crate) fn put_key(out: &mut Vec<u8>, key: &Key) -> Result<(), AllocError>
     put_short(out, key.as_str().as_bytes())
 }
 
-fn put_prefix(out: &mut Vec<u8>, prefix: &Prefix) -> Result<(), AllocError>
+pub(crate) fn put_prefix(out: &mut Vec<u8>, prefix: &Prefix) -> Result<(), AllocError>
     ensures { OnOk result (IsPrefix prefix.now × (out.new.items ≡ out.old.items ++ short_bytes prefix.now)) }
 {
     put_short(out, prefix.as_str().as_bytes())
@@ -73,7 +73,7 @@ fn put_text(out: &mut Vec<u8>, text: &Text) -> Result<(), AllocError>
     put_short(out, text.as_str().as_bytes())
 }
 
-fn put_value(out: &mut Vec<u8>, value: &Value) -> Result<(), AllocError>
+pub(crate) fn put_value(out: &mut Vec<u8>, value: &Value) -> Result<(), AllocError>
     ensures { OnOk result (IsValue value.now × (out.new.items ≡ out.old.items ++ value_bytes value.now)) }
 {
     match value {
@@ -212,7 +212,7 @@ pub(crate) fn put_vector(out: &mut Vec<u8>, vector: &Vector) -> Result<(), Alloc
     put_counts(out, vector.counts())
 }
 
-fn put_wid(out: &mut Vec<u8>, wid: Wid) -> Result<(), AllocError>
+pub(crate) fn put_wid(out: &mut Vec<u8>, wid: Wid) -> Result<(), AllocError>
     ensures { OnOk result (out.new.items ≡ out.old.items ++ wid_bytes wid) }
 {
     out.push(wid.origin.index)?;

@@ -120,7 +120,7 @@ pub(crate) fn key_of(bytes: &[u8]) -> Option<(Key, &[u8])>
 }
 
 #[tactic(auto, unfolding(crate::specs::Inner::Reading::prefix_at))]
-fn prefix_of(bytes: &[u8]) -> Option<(Prefix, &[u8])>
+pub(crate) fn prefix_of(bytes: &[u8]) -> Option<(Prefix, &[u8])>
     ensures { Gives (λ x. (x.0, x.1.now)) result (prefix_at bytes.now) }
 {
     let Some((text, rest)) = short_of(bytes) else {

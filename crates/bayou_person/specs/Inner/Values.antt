@@ -12,4 +12,5 @@ IsValueFault word (fault.Key why) = ⊥
 IsValueFault word (fault.Value why) = IsNoValue word why × ((value : Value) → ¬ (IsValueOf word value))
 IsValueFault word fault.Number = ⊥
 IsValueFault word fault.Server = ⊥
+IsValueFault word fault.Name = ⊥
 IsValueFault word fault.OutOfMemory = Unit {0}

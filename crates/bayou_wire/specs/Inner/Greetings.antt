@@ -17,7 +17,8 @@ use Rattle.bayou_wire.specs.declared.greeting.Welcome.{Welcome}
 use Rattle.bayou_wire.specs.declared.greeting_take.Unpacked.{Unpacked}
 use Rattle.bayou_wire.specs.declared.layout.TheConstants as layout
 use Rattle.bayou_wire.specs.Greetings.{IsGreeting, IsGreetingFault, greeting_kind, greeting_payload}
-use Rattle.bayou_wire.specs.Inner.Reading.{Read, ◌>>=◌, both, byte_at, key_at, list_at, made, number_at, server_of, times, vector_at}
+use Rattle.bayou_wire.specs.Inner.Lookups.{fate_asked_at, fate_at, optional_key_at, page_at, rows_asked_at}
+use Rattle.bayou_wire.specs.Inner.Reading.{Read, ◌>>=◌, both, byte_at, list_at, made, number_at, server_of, times, vector_at}
 use Rattle.bayou_wire.specs.Stream.{HasLength, IsFaulty, IsPartial, Packs}
 
 -- ---- values
@@ -52,11 +53,6 @@ optional_at at (first ∷ bytes) =
     if first == layout.ABSENT then Some (None, bytes)
     else (if first == layout.PRESENT then made (λ x. Some x) at bytes else None)
 
--- the name of a store; no name has no byte
-unfoldable pub optional_name_at : List ℕ → Read (Option (List ℕ))
-optional_name_at [] = None
-optional_name_at (len ∷ bytes) = if len == 0 then Some (None, bytes) else made (λ name. Some name) key_at (len ∷ bytes)
-
 -- a digest for each server
 unfoldable pub digests_at : List ℕ → Read (List ℕ)
 digests_at bytes = times SERVERS (number_at w64) bytes
@@ -75,7 +71,7 @@ hello_at bytes =
 unfoldable pub welcome_at : List ℕ → Read Welcome
 welcome_at bytes =
     made (λ p. record { version = p.0; id = p.1.0; servers = p.1.1.0; name = p.1.1.1.0; nonce = p.1.1.1.1.0; proof = p.1.1.1.1.1 })
-    (both byte_at (both (named_at server_of) (both (named_at count_of) (both optional_name_at
+    (both byte_at (both (named_at server_of) (both (named_at count_of) (both optional_key_at
     (both (fixed_at layout.NONCE_BYTES) (fixed_at layout.PROOF_BYTES)))))) bytes
 
 unfoldable pub proving_at : List ℕ → Read Proving
@@ -98,20 +94,25 @@ greeting_reply_at kind bytes =
     else (if kind == layout.KIND_DIFFERS then made greetings.Differs (named_at server_of) bytes
     else (if kind == layout.KIND_DIGESTED
     then made (λ digests. greetings.Digested (record { items = digests })) (list_at layout.DIGESTS_AT_ONCE (number_at w64)) bytes
-    else None)))
+    else (if kind == layout.KIND_LISTED then made greetings.Listed page_at bytes
+    else (if kind == layout.KIND_OUTCOME then made greetings.Outcome fate_at bytes
+    else None)))))
 
 unfoldable pub greeting_at : ℕ → List ℕ → Read Greeting
 greeting_at kind bytes =
     if kind == layout.KIND_HELLO then made greetings.Hello hello_at bytes
     else (if kind == layout.KIND_PROOF then made greetings.Proof proving_at bytes
     else (if kind == layout.KIND_DIGESTS then made greetings.Digests inquiry_at bytes
-    else greeting_reply_at kind bytes))
+    else (if kind == layout.KIND_LIST then made greetings.List rows_asked_at bytes
+    else (if kind == layout.KIND_BECAME then made greetings.Became fate_asked_at bytes
+    else greeting_reply_at kind bytes))))
 
 -- whether some greeting has the kind
 unfoldable pub is_greeting_kind : ℕ → Bool
 is_greeting_kind kind =
     (kind == layout.KIND_HELLO) || (kind == layout.KIND_PROOF) || (kind == layout.KIND_DIGESTS) || (kind == layout.KIND_WELCOME)
     || (kind == layout.KIND_KNOWN) || (kind == layout.KIND_DIFFERS) || (kind == layout.KIND_DIGESTED)
+    || (kind == layout.KIND_LIST) || (kind == layout.KIND_BECAME) || (kind == layout.KIND_LISTED) || (kind == layout.KIND_OUTCOME)
 
 -- what bytes are as a kind and a payload, and what stands behind it
 abbrev pub IsUnpacked : List ℕ → Result Unpacked DecodeFault → Type 0

@@ -5,3 +5,4 @@ pub mod Payloads
 pub mod Sizes
 pub mod Fronts
 pub mod Greetings
+pub mod Lookups

@@ -10,9 +10,6 @@ returns-clause-served g c =
     let (read, consumes, ends) = c.serve_with_leave-answer.ensures.serves in
     let rest = g.R.Read.remaining c.serve_with_leave-answer.new.channel.reader.reader.reader.reader in
     let after = g.W.Write.contents c.serve_with_leave-answer.new.channel.writer.writer in
-    let of_channel = subst (λ reader. Consumes (g.R.Read.remaining reader.reader.reader.reader) rest read) c.new-channel.ensures.reader consumes in
-    let of_patient = subst (λ heard. Consumes (g.R.Read.remaining heard.reader) rest read) c.new-reader.ensures.reader.0 of_channel in
-    let of_reader = subst (λ reader. Consumes (g.R.Read.remaining reader) rest read) c.new-heard.ensures of_patient in
-    let by_channel = subst (λ writer. ServeEnds (halting (desk_steps g.L.Desks.begun)) c.args.desk c.serve_with_leave-answer.result.1 read (g.W.Write.contents writer.writer) after (IsAtEnd rest) c.serve_with_leave-answer.result.0) c.new-channel.ensures.writer ends in
-    let by_writer = subst (λ writer. ServeEnds (halting (desk_steps g.L.Desks.begun)) c.args.desk c.serve_with_leave-answer.result.1 read (g.W.Write.contents writer) after (IsAtEnd rest) c.serve_with_leave-answer.result.0) c.new-writer.ensures by_channel in
+    let of_reader = subst (λ reader. Consumes (g.R.Read.remaining reader) rest read) c.channel_over-channel.ensures.reader consumes in
+    let by_writer = subst (λ writer. ServeEnds (halting (desk_steps g.L.Desks.begun)) c.args.desk c.serve_with_leave-answer.result.1 read (g.W.Write.contents writer) after (IsAtEnd rest) c.serve_with_leave-answer.result.0) c.channel_over-channel.ensures.writer ends in
     (c.serve_with_leave-answer.result.0, rest, after, read, of_reader, by_writer)

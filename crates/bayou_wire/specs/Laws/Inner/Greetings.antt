@@ -5,12 +5,12 @@ use Rattle.std.specs.List.{flat_map}
 use Rattle.std.specs.Int.{w32, w64}
 use Rattle.std.specs.Coded.{×_prop, le_prop}
 use Rattle.std.proofs.lemmas.Bool.{ltb-true, ltb-false, leb-true, leb-false, le-ltb, eqb-true}
-use Rattle.std.proofs.lemmas.Bool.Decides.{nat_tests}
 use Rattle.std.proofs.lemmas.List.{append-nil, take_at, drop_at, take-append-drop, length-append, length-take, nil_from_length}
 use Rattle.std.proofs.lemmas.Option.{none-some, same_Some, option_and_then_some}
 use Rattle.bayou_base.specs.declared.limits.TheConstants.{SERVERS, MAX_FRAME_BYTES}
 use Rattle.bayou_base.specs.declared.server.ServerId.{ServerId}
-use Rattle.bayou_lang.specs.Ranges.{AreAtMost, IsKey}
+use Rattle.bayou_base.specs.declared.wid.Wid.{Wid}
+use Rattle.bayou_lang.specs.Ranges.{AreAtMost}
 use Rattle.bayou_wire.specs.declared.fault.DecodeFault.{DecodeFault}
 use Rattle.bayou_wire.specs.declared.fault.DecodeFault.TheVariants.{TooLong, BadKind, BadBody, Trailing}
 use Rattle.bayou_wire.specs.declared.frame.Frame.{Frame}
@@ -26,26 +26,21 @@ use Rattle.bayou_wire.specs.declared.greeting.Welcome.{Welcome}
 use Rattle.bayou_wire.specs.declared.layout.TheConstants as layout
 use Rattle.bayou_wire.specs.declared.layout.TheConstants.{LENGTH_BYTES, NONCE_BYTES, PROOF_BYTES, DIGESTS_AT_ONCE}
 use Rattle.bayou_wire.specs.Digests.{AreDigests, IsDigest}
-use Rattle.bayou_wire.specs.Greetings.{digest_bytes, digests_bytes, optional_server_bytes, optional_count_bytes, optional_name_bytes, optional_bytes, held_bytes, hello_bytes, welcome_bytes, proving_bytes, known_bytes, inquiry_bytes, greeting_kind, greeting_payload, greeting_bytes, IsHeld, IsHello, IsWelcome, IsProving, IsKnown, IsInquiry, IsGreeting, SpellsGreeting, IsGreetingKind, GreetingBegins, IsGreetingFault, GreetingAnswer}
-use Rattle.bayou_wire.specs.Inner.Greetings.{fixed_at, named_at, named_or_at, count_if, count_of, optional_at, optional_name_at, digests_at, held_at, hello_at, welcome_at, proving_at, known_at, inquiry_at, greeting_reply_at, greeting_at, is_greeting_kind, IsUnpacked, UnpackedAnswer}
-use Rattle.bayou_wire.specs.Inner.Reading.{Read, ◌>>=◌, both, byte_at, is_kind, key_at, list_at, made, number_at, server_of, times, vector_at}
+use Rattle.bayou_wire.specs.Greetings.{digest_bytes, digests_bytes, optional_server_bytes, optional_count_bytes, optional_bytes, held_bytes, hello_bytes, welcome_bytes, proving_bytes, known_bytes, inquiry_bytes, greeting_kind, greeting_payload, greeting_bytes, IsHeld, IsHello, IsWelcome, IsProving, IsKnown, IsInquiry, IsGreeting, SpellsGreeting, IsGreetingKind, GreetingBegins, IsGreetingFault, GreetingAnswer}
+use Rattle.bayou_wire.specs.Inner.Greetings.{fixed_at, named_at, named_or_at, count_if, count_of, optional_at, digests_at, held_at, hello_at, welcome_at, proving_at, known_at, inquiry_at, greeting_reply_at, greeting_at, is_greeting_kind, IsUnpacked, UnpackedAnswer}
+use Rattle.bayou_wire.specs.Inner.Reading.{Read, ◌>>=◌, both, byte_at, is_kind, list_at, made, number_at, server_of, times, vector_at}
 use Rattle.bayou_wire.specs.Spelling.{IsFrame, frame_bytes, kind_of, list_bytes, packed, payload_bytes, u32_bytes, vector_bytes}
 use Rattle.bayou_wire.specs.Stream.{Packs, HasLength, IsFaulty, IsPartial}
-use Rattle.bayou_wire.specs.Laws.Inner.Formats.{IsBytes, IsFormat, begins_one, none_begins, both_format, byte_format, chosen, key_format, list_format, made_again, made_format, made_takes, case_takes, number_format, times_takes, times_again, u32_format, vector_format, wide64}
+use Rattle.bayou_wire.specs.Laws.Inner.Formats.{IsBytes, IsFormat, begins_one, none_begins, both_format, byte_format, chosen, list_format, made_again, made_format, made_takes, case_takes, number_format, times_takes, times_again, u32_format, vector_format, wide64}
 use Rattle.bayou_wire.specs.Laws.Inner.Fronts.{frame_packs, has_one_length, length_at-has, one_packed, packed_length, packed_not_partial, partial_length}
+use Rattle.bayou_wire.specs.Laws.Inner.Lookups.{fate_asked_format, fate_asked_size, fate_format, fate_size, optional_key_format, optional_key_size, page_format, page_size, rows_asked_format, rows_asked_size, same_format}
+use Rattle.bayou_wire.specs.Lookups.{optional_key_bytes}
+use Rattle.bayou_wire.specs.Inner.Lookups.{optional_key_at}
 use Rattle.bayou_wire.specs.Laws.Inner.Payloads.{bare_takes, is_kind-false, link}
 use Rattle.bayou_wire.specs.Laws.Inner.Readers.{server_of-from, server_of-is}
 use Rattle.bayou_wire.specs.Laws.Inner.Vectors.{length-vector_bytes}
 
 -- ---- values
-
--- a format of the same values, in other words
-same_format : {T : Type 0} {Is : T → Type 0} {spelling : T → List ℕ} {at : List ℕ → Read T} (Other : T → Type 0)
-    → ((x : T) → Is x → Other x) → ((x : T) → Other x → Is x) → IsFormat Is spelling at → IsFormat Other spelling at
-same_format Other there back format = record {
-  takes = λ bytes x fits e. let t = format.takes bytes x fits e in (there x.0 t.0, t.1);
-  again = λ value rest is. format.again value rest (back value is);
-}
 
 u64_format : IsFormat IsDigest digest_bytes (number_at w64)
 u64_format = number_format w64 (2 ^ 64) wide64
@@ -198,37 +193,6 @@ optional_format {T} {Is} {spelling} {at} format = record { takes = takes; again 
     again None rest is = refl
     again (Some y) rest is = made_again (λ y. Some y) format y rest is
 
--- a key has a byte
-key_is_some : (key : List ℕ) → IsKey key → (length key == 0) ≡ false
-key_is_some key is =
-    elim (length key == 0) as (λ b. (length key == 0) ≡ b → b ≡ false) [
-      | true ↦ λ e. absurd (grind (arith, nat_tests))
-      | false ↦ λ _. refl
-    ] refl
-
-abbrev IsOptionalName : Option (List ℕ) → Type 0
-IsOptionalName name = IfSome name IsKey
-
-optional_name_format : IsFormat IsOptionalName optional_name_bytes optional_name_at
-unfolding optional_name_at
-optional_name_format = record { takes = takes; again = again }
-  where
-    some : (bytes : List ℕ) (x : Option (List ℕ) × List ℕ) → IsBytes bytes → made (λ name. Some name) key_at bytes ≡ Some x → IsOptionalName x.0 × (bytes ≡ optional_name_bytes x.0 ++ x.1)
-    some bytes x fits e =
-        let t = made_takes (λ name. Some name) key_format bytes x fits e in
-        subst (λ (v : Option (List ℕ)). IsOptionalName v × (bytes ≡ optional_name_bytes v ++ x.1)) (sym t.2) (t.1, t.3)
-
-    takes : (bytes : List ℕ) (x : Option (List ℕ) × List ℕ) → IsBytes bytes → optional_name_at bytes ≡ Some x → IsOptionalName x.0 × (bytes ≡ optional_name_bytes x.0 ++ x.1)
-    takes [] x fits e = absurd (none-some x e)
-    takes (len ∷ bytes) x fits e =
-        link len 0 (Some (None, bytes)) (made (λ name. Some name) key_at (len ∷ bytes)) x e
-        (λ same here. bare_takes IsOptionalName optional_name_bytes 0 None tt refl len bytes x same here)
-        (λ there. some (len ∷ bytes) x fits there)
-
-    again : (name : Option (List ℕ)) (rest : List ℕ) → IsOptionalName name → optional_name_at (optional_name_bytes name ++ rest) ≡ Some (name, rest)
-    again None rest is = refl
-    again (Some name) rest is = rw (key_is_some name is) (made_again (λ name. Some name) key_format name rest is)
-
 -- ---- digests
 
 digests_format : IsFormat AreDigests digests_bytes digests_at
@@ -262,10 +226,10 @@ unfolding welcome_at
 welcome_format = record { takes = parts.takes; again = parts.again }
   where
     parts : IsFormat IsWelcome welcome_bytes (made (λ (p : ℕ × (ServerId × (ServerCount × (Option (List ℕ) × (List ℕ × List ℕ))))). record { version = p.0; id = p.1.0; servers = p.1.1.0; name = p.1.1.1.0; nonce = p.1.1.1.1.0; proof = p.1.1.1.1.1 })
-        (both byte_at (both (named_at server_of) (both (named_at count_of) (both optional_name_at (both (fixed_at NONCE_BYTES) (fixed_at PROOF_BYTES)))))))
+        (both byte_at (both (named_at server_of) (both (named_at count_of) (both optional_key_at (both (fixed_at NONCE_BYTES) (fixed_at PROOF_BYTES)))))))
     parts = same_format IsWelcome (λ x is. (is.0, is.1.1.1.0, is.1.1.1.1.0, is.1.1.1.1.1)) (λ x is. (is.0, (tt, (tt, (is.1, (is.2, is.3))))))
         (made_format _ (λ welcome. (welcome.version, (welcome.id, (welcome.servers, (welcome.name, (welcome.nonce, welcome.proof)))))) (λ x. refl) (λ x. refl)
-        (both_format byte_format (both_format server_format (both_format count_format (both_format optional_name_format (both_format (fixed_format NONCE_BYTES) (fixed_format PROOF_BYTES)))))))
+        (both_format byte_format (both_format server_format (both_format count_format (both_format optional_key_format (both_format (fixed_format NONCE_BYTES) (fixed_format PROOF_BYTES)))))))
 
 proving_format : IsFormat IsProving proving_bytes proving_at
 unfolding proving_at
@@ -312,8 +276,10 @@ reply_takes kind bytes x fits e =
     link kind layout.KIND_WELCOME _ _ x e (λ same here. kind_takes layout.KIND_WELCOME greetings.Welcome welcome_format (λ y is. is) (λ y. refl) (λ y. refl) kind bytes x fits same here) (λ e.
     link kind layout.KIND_KNOWN _ _ x e (λ same here. kind_takes layout.KIND_KNOWN greetings.Known known_format (λ y is. is) (λ y. refl) (λ y. refl) kind bytes x fits same here) (λ e.
     link kind layout.KIND_DIFFERS _ _ x e (λ same here. kind_takes layout.KIND_DIFFERS greetings.Differs server_format (λ y is. is) (λ y. refl) (λ y. refl) kind bytes x fits same here) (λ e.
-    link kind layout.KIND_DIGESTED _ _ x e (λ same here. kind_takes layout.KIND_DIGESTED (λ digests. greetings.Digested (record { items = digests })) digested_format (λ y is. is) (λ y. refl) (λ y. refl) kind bytes x fits same here) (λ none.
-    absurd (none-some x none)))))
+    link kind layout.KIND_DIGESTED _ _ x e (λ same here. kind_takes layout.KIND_DIGESTED (λ digests. greetings.Digested (record { items = digests })) digested_format (λ y is. is) (λ y. refl) (λ y. refl) kind bytes x fits same here) (λ e.
+    link kind layout.KIND_LISTED _ _ x e (λ same here. kind_takes layout.KIND_LISTED greetings.Listed page_format (λ y is. is) (λ y. refl) (λ y. refl) kind bytes x fits same here) (λ e.
+    link kind layout.KIND_OUTCOME _ _ x e (λ same here. kind_takes layout.KIND_OUTCOME greetings.Outcome fate_format (λ y is. is) (λ y. refl) (λ y. refl) kind bytes x fits same here) (λ none.
+    absurd (none-some x none)))))))
 
 greeting_takes : (kind : ℕ) (bytes : List ℕ) (x : Greeting × List ℕ) → IsBytes bytes → greeting_at kind bytes ≡ Some x → IsGreetingOf kind x.0 × (bytes ≡ greeting_payload x.0 ++ x.1)
 unfolding greeting_at
@@ -321,7 +287,9 @@ greeting_takes kind bytes x fits e =
     link kind layout.KIND_HELLO _ _ x e (λ same here. kind_takes layout.KIND_HELLO greetings.Hello hello_format (λ y is. is) (λ y. refl) (λ y. refl) kind bytes x fits same here) (λ e.
     link kind layout.KIND_PROOF _ _ x e (λ same here. kind_takes layout.KIND_PROOF greetings.Proof proving_format (λ y is. is) (λ y. refl) (λ y. refl) kind bytes x fits same here) (λ e.
     link kind layout.KIND_DIGESTS _ _ x e (λ same here. kind_takes layout.KIND_DIGESTS greetings.Digests inquiry_format (λ y is. is) (λ y. refl) (λ y. refl) kind bytes x fits same here) (λ e.
-    reply_takes kind bytes x fits e)))
+    link kind layout.KIND_LIST _ _ x e (λ same here. kind_takes layout.KIND_LIST greetings.List rows_asked_format (λ y is. is) (λ y. refl) (λ y. refl) kind bytes x fits same here) (λ e.
+    link kind layout.KIND_BECAME _ _ x e (λ same here. kind_takes layout.KIND_BECAME greetings.Became fate_asked_format (λ y is. is) (λ y. refl) (λ y. refl) kind bytes x fits same here) (λ e.
+    reply_takes kind bytes x fits e)))))
 
 greeting_again : (greeting : Greeting) (rest : List ℕ) → IsGreeting greeting → greeting_at (greeting_kind greeting) (greeting_payload greeting ++ rest) ≡ Some (greeting, rest)
 unfolding greeting_at greeting_reply_at
@@ -332,6 +300,10 @@ greeting_again (greetings.Welcome welcome) rest is = made_again greetings.Welcom
 greeting_again (greetings.Known known) rest is = made_again greetings.Known known_format known rest is
 greeting_again (greetings.Differs origin) rest is = made_again greetings.Differs server_format origin rest is
 greeting_again (greetings.Digested digests) rest is = made_again (λ (xs : List ℕ). greetings.Digested (record { items = xs })) digested_format digests.items rest is
+greeting_again (greetings.List asked) rest is = made_again greetings.List rows_asked_format asked rest is
+greeting_again (greetings.Became asked) rest is = made_again greetings.Became fate_asked_format asked rest is
+greeting_again (greetings.Listed page) rest is = made_again greetings.Listed page_format page rest is
+greeting_again (greetings.Outcome fate) rest is = made_again greetings.Outcome fate_format fate rest is
 
 pub greeting_format : (kind : ℕ) → IsFormat (IsGreetingOf kind) greeting_payload (greeting_at kind)
 greeting_format kind = record { takes = greeting_takes kind; again = again }
@@ -350,12 +322,19 @@ kind_is_kind (greetings.Welcome welcome) = refl
 kind_is_kind (greetings.Known known) = refl
 kind_is_kind (greetings.Differs origin) = refl
 kind_is_kind (greetings.Digested digests) = refl
+kind_is_kind (greetings.List asked) = refl
+kind_is_kind (greetings.Became asked) = refl
+kind_is_kind (greetings.Listed page) = refl
+kind_is_kind (greetings.Outcome fate) = refl
 
 pub is_greeting_kind-false : (kind : ℕ) → is_greeting_kind kind ≡ false → IsGreetingKind kind → ⊥
 is_greeting_kind-false kind none is = let e : true ≡ false = sym (kind_is_kind is.0) ∙ ap is_greeting_kind is.1 ∙ none in cc
 
 some_server : ServerId
 some_server = record { index = 0; in_range = omega arith }
+
+some_wid : Wid
+some_wid = record { origin = some_server; seq = 1; in_range = (omega arith, omega arith) }
 
 some_hello : Hello
 some_hello = record { version = 0; asked = None; from = None; servers = None; nonce = [] }
@@ -377,13 +356,17 @@ or_kind greeting kind before e others =
 pub is_greeting_kind-true : (kind : ℕ) → is_greeting_kind kind ≡ true → IsGreetingKind kind
 unfolding is_greeting_kind
 is_greeting_kind-true kind e =
+    or_kind (greetings.Outcome (record { vector = []; placed = None })) kind _ e (λ e.
+    or_kind (greetings.Listed (record { vector = []; more = false; rows = record { items = [] } })) kind _ e (λ e.
+    or_kind (greetings.Became (record { need = []; wid = some_wid })) kind _ e (λ e.
+    or_kind (greetings.List (record { need = []; prefix = []; after = None; most = 0 })) kind _ e (λ e.
     or_kind (greetings.Digested (record { items = [] })) kind _ e (λ e.
     or_kind (greetings.Differs some_server) kind _ e (λ e.
     or_kind (greetings.Known (record { vector = []; limit = 0; digests = None })) kind _ e (λ e.
     or_kind (greetings.Welcome some_welcome) kind _ e (λ e.
     or_kind (greetings.Digests (record { origin = some_server; counts = record { items = [] } })) kind _ e (λ e.
     or_kind (greetings.Proof (record { proof = []; held = None })) kind _ e (λ e.
-    (greetings.Hello some_hello, sym (eqb-true kind (greeting_kind (greetings.Hello some_hello)) e))))))))
+    (greetings.Hello some_hello, sym (eqb-true kind (greeting_kind (greetings.Hello some_hello)) e))))))))))))
 
 -- ---- sizes
 
@@ -405,13 +388,6 @@ optional_server_size (Some server) = refl
 optional_count_size : (servers : Option ServerCount) → length (optional_count_bytes servers) ≡ 1
 optional_count_size None = refl
 optional_count_size (Some servers) = refl
-
-key_size : (key : List ℕ) → IsKey key → length key ≤ 32
-key_size key is = grind (arith, nat_tests)
-
-optional_name_size : (name : Option (List ℕ)) → IsOptionalName name → length (optional_name_bytes name) ≤ 33
-optional_name_size None is = omega arith
-optional_name_size (Some name) is = omega (arith, key_size name is)
 
 optional_held_size : (held : Option Held) → IfSome held IsHeld → length (optional_bytes held_bytes held) ≤ 12 * SERVERS + 1
 optional_held_size None is = omega arith
@@ -439,8 +415,8 @@ hello_size hello is =
 
 welcome_size : (welcome : Welcome) → IsWelcome welcome → length (welcome_bytes welcome) ≤ 128
 welcome_size welcome is =
-    let name = optional_name_bytes welcome.name in
-    omega (arith, length-append name (welcome.nonce ++ welcome.proof), length-append welcome.nonce welcome.proof, optional_name_size welcome.name is.1, is.2, is.3)
+    let name = optional_key_bytes welcome.name in
+    omega (arith, length-append name (welcome.nonce ++ welcome.proof), length-append welcome.nonce welcome.proof, optional_key_size welcome.name is.1, is.2, is.3)
 
 proving_size : (given : Proving) → IsProving given → length (proving_bytes given) ≤ 256
 proving_size given is = omega (arith, length-append given.proof (optional_bytes held_bytes given.held), optional_held_size given.held is.1, is.0)
@@ -458,6 +434,10 @@ greeting_is_short (greetings.Welcome welcome) is = omega (arith, welcome_size we
 greeting_is_short (greetings.Known known) is = omega (arith, known_size known is)
 greeting_is_short (greetings.Differs origin) is = omega arith
 greeting_is_short (greetings.Digested digests) is = omega (arith, digests_size digests.items, is.0)
+greeting_is_short (greetings.List asked) is = omega (arith, rows_asked_size asked is)
+greeting_is_short (greetings.Became asked) is = omega (arith, fate_asked_size asked)
+greeting_is_short (greetings.Listed page) is = omega (arith, page_size page is)
+greeting_is_short (greetings.Outcome fate) is = omega (arith, fate_size fate)
 
 pub greeted_size : (bytes : List ℕ) (greeting : Greeting) → SpellsGreeting bytes greeting → length bytes ≤ LENGTH_BYTES + MAX_FRAME_BYTES
 greeted_size bytes greeting s = omega (arith, ap length s.spelled, greeting_is_short greeting s.is)
@@ -627,6 +607,10 @@ not_frame_kind (greetings.Welcome welcome) = refl
 not_frame_kind (greetings.Known known) = refl
 not_frame_kind (greetings.Differs origin) = refl
 not_frame_kind (greetings.Digested digests) = refl
+not_frame_kind (greetings.List asked) = refl
+not_frame_kind (greetings.Became asked) = refl
+not_frame_kind (greetings.Listed page) = refl
+not_frame_kind (greetings.Outcome fate) = refl
 
 -- in a frame's place a greeting is a fault
 pub greeting_no_frame : (greeting : Greeting) (behind : List ℕ) → IsGreeting greeting → IsFaulty (greeting_bytes greeting ++ behind) BadKind

@@ -39,7 +39,7 @@ length-i64_bytes : (number : ℤ) → length (i64_bytes number) ≡ 8
 unfolding i64_bytes
 length-i64_bytes number = refl
 
-value_size : (value : Value) → IsValue value → length (value_bytes value) ≤ 34
+pub value_size : (value : Value) → IsValue value → length (value_bytes value) ≤ 34
 value_size (Num number) is = omega (arith, length-i64_bytes number)
 value_size (Text text) is = omega (arith, is.0)
 
@@ -58,7 +58,7 @@ cond_size (Absent key) is = omega (arith, key_is_short key is)
 cond_size (AtLeast key number) is = omega (arith, key_is_short key is.0, length-append key (i64_bytes number), length-i64_bytes number)
 cond_size (AtMost prefix most) is = omega (arith, prefix_is_short prefix is.0, length-append prefix (u32_bytes most))
 
-members_size : {T : Type 0} (Is : T → Type 0) (spelling : T → List ℕ) (size : ℕ) → ((x : T) → Is x → length (spelling x) ≤ size)
+pub members_size : {T : Type 0} (Is : T → Type 0) (spelling : T → List ℕ) (size : ℕ) → ((x : T) → Is x → length (spelling x) ≤ size)
     → (members : List T) → AllByRecursion Is members → length (flat_map spelling members) ≤ length members * size
 members_size Is spelling size each [] all = omega arith
 members_size Is spelling size each (x ∷ xs) all =

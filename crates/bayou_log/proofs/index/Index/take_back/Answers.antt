@@ -1,5 +1,5 @@
 use Rattle.std.specs.Global.{Vec}
-use Rattle.std.proofs.Common.{◌≡◌, ℕ, ◌<◌, [], ◌∷◌, ◌++◌, ap, sym, ◌∙◌, subst, arith, length, map, vec_items, vec_len}
+use Rattle.std.proofs.Common.{◌≡◌, ℕ, ◌<◌, [], ap, sym, ◌∙◌, subst, arith, length, map, vec_items, vec_len}
 use Rattle.bayou_log.specs.Inner.Index.{Rows, places_of}
 use Rattle.std.proofs.lemmas.List.{get_or-map}
 use Rattle.bayou_log.proofs.Rooms.{other_places, own_less, some_last}

@@ -1,0 +1,33 @@
+use Rattle.std.proofs.Common.{ℕ, List, Option, None, Err, ap, subst, ◌∙◌, ◌≡◌}
+use Rattle.std.specs.Io.KnownBytes.{IsAtEnd}
+use Rattle.bayou_base.specs.declared.entry.What.{What}
+use Rattle.bayou_base.specs.Vector.{joined}
+use Rattle.bayou_client.proofs.Looked.{hears_looking}
+use Rattle.bayou_client.specs.Exchange.{IsGone}
+use Rattle.bayou_client.specs.Lookups.{LookupEnds, asks_rows, listing}
+use Rattle.bayou_client.specs.Operating.{Asking, IsEntered, begins_read}
+use Rattle.bayou_client.proofs.asker.Asker.list.Goals as goal
+use Rattle.bayou_session.specs.Needs.{Told, read_need}
+use Rattle.bayou_wire.specs.declared.lookup.RowsAsked.{RowsAsked}
+
+pub returns-in-Err-clause-hears : goal.returns-in-Err-clause-hears
+returns-in-Err-clause-hears g c =
+    let before = g.W.Write.contents c.args.link.now.channel.writer in
+    let after = g.W.Write.contents c.list-told.new.self.channel.writer in
+    let channel = c.list-told.new.self.channel in
+    let gone = IsGone channel.read_failed channel.write_failed channel.turns_left (IsAtEnd (g.R.Read.remaining channel.reader)) in
+    let old : Asking = record { session = c.self.inside.session; asked = c.self.inside.asked } in
+    let new : Asking = record { session = c.begin-place.new.self; asked = None } in
+    let asked = c.args.asked.now in
+    let (read, consumed, went) = c.list-told.ensures.ends in
+    let needed : c.join-need.result ≡ joined (read_need old.session) asked.need = c.join-need.ensures.counts ∙ ap (λ n. joined n asked.need) c.need_read.ensures.value in
+    let as_asked = subst (λ (r : RowsAsked). LookupEnds (asks_rows r) before after read c.args.link.now.is_closed c.list-told.new.self.is_closed gone c.list-told.result) c.asked_with.ensures went in
+    let ends = subst (λ (n : List ℕ). LookupEnds (asks_rows (record asked { need = n })) before after read c.args.link.now.is_closed c.list-told.new.self.is_closed gone c.list-told.result) needed as_asked in
+    let of_session = subst (λ (s : Told). IsEntered s c.args.server c.what_was_listed-what.result c.entry_of-entry.result) c.begin-place.ensures.begun c.entry_of-entry.ensures in
+    let entered = subst (λ (w : Option What). IsEntered (begins_read old).session c.args.server w c.entry_of-entry.result) c.what_was_listed-what.ensures of_session in
+    rw (← c.self.view_is) (
+      read,
+      consumed,
+      hears_looking (listing old.session asked) c.args.server old new before after read c.args.link.now.is_closed c.list-told.new.self.is_closed gone c.list-told.result (Err c.in-Err.fault) c.entry_of-entry.result
+          c.in-Err.is ends (ap (λ (s : Told). record { session = s; asked = None }) c.begin-place.ensures.begun) entered,
+    )
