@@ -23,6 +23,7 @@ from greeting import Answering, LosesReply
 from listing import Paging, full, page, with_outcomes
 from living import SECONDS, Server, slowness
 from meeting import HELLO, free_port, is_greeting, reply_to_greeting
+from ways import AtRandom
 
 sys.path.insert(0, os.path.join("..", "clients", "python"))
 import bayou  # noqa: E402
@@ -476,10 +477,11 @@ class Tries:
         self.stop_all()
 
     def never_back(self):
-        """Ten thousand lists of a session that asks for Monotonic Reads, at three servers that pull from one another while Writes are made: none goes
-        back, and the audit of it is clean."""
+        """Ten thousand lists of a session that asks for Monotonic Reads, at three servers that pull from one another while Writes are made, at random,
+        since each way between two of them is: none goes back, and the audit of it is clean."""
         folder, ports = self.folder(), [free_port() for _ in range(3)]
-        peers = [[(other, ports[other]) for other in range(3) if other != index] for index in range(3)]
+        ways = {(puller, other): AtRandom(ports[other], puller * 3 + other) for puller in range(3) for other in range(3) if other != puller}
+        peers = [[(other, ways[index, other].port) for other in range(3) if other != index] for index in range(3)]
         servers = [self.start(folder, index, 3, port=ports[index], peers=peers[index], words=["--every", "1"]) for index in range(3)]
         at = [(index, server.address()) for index, server in enumerate(servers)]
         over, draw = threading.Event(), random.Random(83)
@@ -513,6 +515,9 @@ class Tries:
         self.row("all that they hold", at, ["dump"], ["dump %d writes %d" % (index, self.held) for index in range(3)], words=["--book", book])
         audit = subprocess.run([self.program, "audit", book], stdout=subprocess.PIPE, timeout=SECONDS)
         self.that("the audit is clean", (audit.returncode, audit.stdout.decode().splitlines()[:1]), (0, ["clean"]))
+        self.that("each way was open, and closed", all(way.passed and way.closed for way in ways.values()))
+        for way in ways.values():
+            way.end()
         self.stop_all()
 
     def met(self, addresses):
