@@ -8,7 +8,7 @@ _bayou() {
         net) words='--dir -h --help' ;;
         serve)
             words='--id --servers --dir --listen --peer --key --every --limit --connections --idle'
-            words+=' --until-input-ends --new --restore --anyone -h --help'
+            words+=' --until-input-ends --new --restore --without --anyone -h --help'
             ;;
         connect) words='--server --servers --session --key --state --book --wait --timeout -h --help' ;;
         key) words='--name -h --help' ;;

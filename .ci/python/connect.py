@@ -5,6 +5,7 @@ import json
 import os
 import pty
 import random
+import re
 import shutil
 import signal
 import socket
@@ -23,6 +24,7 @@ from greeting import Answering, LosesReply
 from listing import Paging, full, page, with_outcomes
 from living import SECONDS, Server, slowness
 from meeting import HELLO, free_port, is_greeting, reply_to_greeting
+from standings import Standings
 from ways import AtRandom
 
 sys.path.insert(0, os.path.join("..", "clients", "python"))
@@ -41,6 +43,8 @@ LONG = "bad value; a text has at most 32 bytes"
 # What a server has for its connection and its whole reply where nothing is said, and what a busy machine may add.
 TIMEOUT, BUSY = 3, 4
 ENTRY_BYTES = 179
+# What is told of a value, of an own Write, and of one that isn't kept any longer.
+STANDING = r"[0-9]+ (?:(?:tentative|final|changed) (?:[0-9]+:[0-9]+ (?:update|merge [0-9]+|none)|[a-z0-9._/-]+)|forgot [0-9]+:[0-9]+)"
 # How often a session lists while servers pull.
 LISTS = 10_000
 MOST_ENTRIES = 65536
@@ -162,7 +166,12 @@ def kinds_of(printed):
     return [alone.kind(line) for line in printed if " became " not in line]
 
 
-class Tries:
+def without_standings(lines):
+    """The lines without what they say of what is final, where a state is kept: the group `finals` tries that."""
+    return [re.sub(r"^([a-z0-9._/-]+ (?:num|text) .*) (?:tentative|final)$", r"\1", line) for line in lines if not re.fullmatch(STANDING, line)]
+
+
+class Tries(Standings):
     def __init__(self, program, room):
         self.program, self.room, self.checks = program, room, Checks()
         self.servers = []
@@ -186,14 +195,15 @@ class Tries:
                 server.kill()
         self.servers = []
 
-    def call(self, servers, lines, words=(), seconds=SECONDS):
-        """What `bayou connect` prints for these lines at these servers, what it tells, and its status."""
+    def call(self, servers, lines, words=(), seconds=SECONDS, standings=False):
+        """What `bayou connect` prints for these lines at these servers, what it tells, and its status; what is final alone where it is asked for."""
         call = [self.program, "connect"]
         for index, address in servers:
             call += ["--server", "%d=%s" % (index, address)]
         text = "".join(line + "\n" for line in lines).encode()
         done = subprocess.run(call + list(words), input=text, stdout=subprocess.PIPE, stderr=subprocess.PIPE, timeout=seconds)
-        return done.returncode, done.stdout.decode().splitlines(), done.stderr.decode().splitlines()
+        printed = done.stdout.decode().splitlines()
+        return done.returncode, printed if standings else without_standings(printed), done.stderr.decode().splitlines()
 
     def row(self, name, servers, lines, printed, status=0, told=(), words=()):
         self.that(name, self.call(servers, lines, words), (status, with_outcomes(lines, printed), list(told)))
@@ -1004,7 +1014,7 @@ class Tries:
             with open(os.path.join(CALENDAR, step["lines"] + ".expected")) as file:
                 printed = file.read().splitlines()
             at = [(index, "127.0.0.1:%d" % ports[index]) for index in step["at"]]
-            self.row("%s, step %d" % (who, number), at, lines, printed, step.get("status", 0), words=words + step.get("words", []))
+            self.that("%s, step %d" % (who, number), self.call(at, lines, words + step.get("words", []), standings=True), (step.get("status", 0), printed, []))
         places = [(index, "127.0.0.1:%d" % port) for index, port in ports.items()]
         for who in states:
             self.that("%s: dumps" % who, self.call(places, ["dump"], ["--book", book + "." + who])[0], 0)
@@ -1029,7 +1039,7 @@ class Tries:
         self.that("server %d is apart again" % to, again.serving() is not None)
 
 
-GROUPS = ["words", "lines", "values", "claims", "additions", "words_of_lines", "silent", "dripped", "unbelievable", "pages", "never_back", "in_python", "outcomes", "turns", "lost", "asks", "lists", "guarantees_alone", "kept", "grown", "killed", "guarantees", "drawn", "strangers", "keyed", "calendar"]
+GROUPS = ["words", "lines", "values", "claims", "additions", "words_of_lines", "silent", "dripped", "unbelievable", "pages", "never_back", "in_python", "outcomes", "turns", "lost", "asks", "lists", "guarantees_alone", "kept", "grown", "killed", "finals", "one_room", "killed_waiting", "forgotten", "guarantees", "drawn", "strangers", "keyed", "calendar"]
 
 
 def main():

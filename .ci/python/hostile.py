@@ -215,8 +215,8 @@ def installed(checks):
         with open(os.path.join("..", "man", "bayou.1")) as page:
             version = re.search(r"bayou ([0-9.]+)", page.readline()).group(1)
         checks.that("its version is the program's", os.path.isdir(os.path.join(folder, "at", "bayou-%s.dist-info" % version)), True)
-        told = subprocess.run([sys.executable, "-c", "import bayou; print(bayou.Session.__name__)"], cwd=os.path.join(folder, "at"), capture_output=True, text=True)
-        checks.that("what was installed", told.stdout, "Session\n")
+        told = subprocess.run([sys.executable, "-c", "import bayou; print(bayou.Session([]).final()[0])"], cwd=os.path.join(folder, "at"), capture_output=True, text=True)
+        checks.that("what was installed", told.stdout, "0\n")
 
 
 def main():

@@ -83,7 +83,7 @@ class Tries:
         open(path, "wb").close()
         program = ([], [("put", "a", ("lit", 1))], [])
         writes = [(0, 1, 1, frames.ZERO, program)]
-        with Fake(items(writes) + ended(1)) as fake:
+        with Fake(items(writes) + ended(1), asks=2) as fake:
             server = Server(self.program, folder, 0, servers=2, peers=[(1, fake.port)], words=["--restore"])
             self.that("--restore over an empty file", server.serving(), "serving 0 at 127.0.0.1:%s holds 1,0" % server.port)
             server.end()
@@ -127,7 +127,7 @@ class Tries:
         """A journal that was made again stays where its server finds no socket: it is whole, and is gone on from."""
         folder, path = self.folder()
         program = ([], [("put", "a", ("lit", 1))], [])
-        with socket.socket() as taken, Fake(items([(0, 1, 1, frames.ZERO, program)]) + ended(1)) as fake:
+        with socket.socket() as taken, Fake(items([(0, 1, 1, frames.ZERO, program)]) + ended(1), asks=2) as fake:
             taken.bind(("127.0.0.1", 0))
             taken.listen()
             server = Server(self.program, folder, 0, servers=2, port=taken.getsockname()[1], peers=[(1, fake.port)], words=["--restore"])

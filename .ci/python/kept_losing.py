@@ -145,7 +145,7 @@ class Tries:
         os.rename(path, path + ".away")
         self.refused("a new one behind it", start(0, new=True), REFUSED % path)
         self.that("of which no journal is made", os.path.exists(path), False)
-        self.refused("a restoring without peers", start(0, ["--restore"]), "bayou: %s: not restored: no peer was reached" % path)
+        self.refused("a restoring without peers", start(0, ["--restore"]), "bayou: %s: not restored: server 1 is away: bring it up, or put --without 1 in the place of its --peer" % path)
         self.that("its mark stays over that", size(mark), 5)
         peers = [start(1), start(2)]
         self.that("peers begin", all([peer.serving() is not None for peer in peers]))

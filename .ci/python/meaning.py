@@ -39,15 +39,20 @@ def behind_ops(ops, database):
     return database
 
 
-def behind(program, database):
-    """The database behind the program."""
+def became(program, database):
+    """What becomes of the program, which is "update", "merge" with the number of the alternative, or "none", and the database behind it."""
     check, update, merge = program
     if all(holds(condition, database) for condition in check):
         then = behind_ops(update, database)
-        return database if then is None else then
-    for when, ops in merge:
+        return ("none", database) if then is None else ("update", then)
+    for number, (when, ops) in enumerate(merge, 1):
         if all(holds(condition, database) for condition in when):
             then = behind_ops(ops, database)
             if then is not None:
-                return then
-    return database
+                return "merge %d" % number, then
+    return "none", database
+
+
+def behind(program, database):
+    """The database behind the program."""
+    return became(program, database)[1]

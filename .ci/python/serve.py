@@ -350,7 +350,7 @@ class Tries(Holding, Greeting, Keys, Differing, Lookups):
         self.that("what a session saw it sees there", soon(lambda: session.read("k7/0", 0)), 7)
         accepted = session.write(PUT, 0)
         self.that("the next name is the next one", (accepted.origin, accepted.seq), (0, 17))
-        self.refused("a restoring of a journal in use", folder, 3, "bayou: %s: there is a journal; without --new and --restore it is gone on from" % path, words=["--restore"])
+        self.refused("a restoring of a journal in use", folder, 3, "bayou: %s: there is a journal; without --new and --restore it is gone on from" % path, words=["--restore", "--without", "1", "--without", "2"])
         self.that("it goes on as ever", soon_alike(servers) is not None)
         servers[0].end()
         servers[0] = start(0, False)
@@ -375,18 +375,14 @@ class Tries(Holding, Greeting, Keys, Differing, Lookups):
         self.that("nothing is left of what wasn't restored", written_in(folder), ["server-0.journal.mark", "server-1.journal", "server-2.journal"])
 
     def bad_peers(self):
-        """Peers that are away, or that don't answer as a server does."""
+        """Peers that don't answer as a server does."""
         folder = self.folder()
         path = os.path.join(folder, "server-0.journal")
-        self.refused("a restoring without peers", folder, 3, "bayou: %s: not restored: no peer was reached" % path, words=["--restore"])
-        ports = [free_port(), free_port()]
-        server = Server(self.program, folder, 0, peers=list(zip((1, 2), ports)), words=["--restore"])
-        told = ["bayou: peer %d at 127.0.0.1:%d away" % peer for peer in zip((1, 2), ports)]
-        self.that("a restoring whose peers are away", (server.ended()[0], server.told.all()), (3, told + ["bayou: %s: not restored: no peer was reached" % path]))
+        alone = ["--restore", "--without", "2"]
         program = ([], [("put", "a", ("lit", 1))], [])
         first, other = (0, 1, 1, frames.ZERO, program), (1, 1, 1, frames.ZERO, program)
         whole = [first, other, (0, 2, 2, frames.counts(1, 1), program)]
-        no_items = "server 1 didn't answer whole"
+        no_items = "server 1 didn't answer whole: mend it, or put --without 1 in the place of its --peer"
         for name, answer, line in [
             ("says nothing", b"", no_items),
             ("stops within", items(whole), no_items),
@@ -396,11 +392,11 @@ class Tries(Holding, Greeting, Keys, Differing, Lookups):
             ("has an own Write that forgets", items(whole + [(0, 3, 3, frames.counts(2), program)]) + ended(4), "the peers' Write 3 of this server can't be its own"),
         ]:
             with Fake(answer) as fake:
-                server = Server(self.program, folder, 0, peers=[(1, fake.port)], words=["--restore"])
+                server = Server(self.program, folder, 0, peers=[(1, fake.port)], words=alone)
                 self.that("a peer that " + name, (server.ended()[0], server.told.all()[-1:]), (3, ["bayou: %s: not restored: %s" % (path, line)]))
         self.that("nothing is left of any of them", os.listdir(folder), [])
-        with Fake(items(whole) + ended(3), asks=1) as fake:
-            server = Server(self.program, folder, 0, peers=[(1, fake.port)], words=["--restore"])
+        with Fake(items(whole) + ended(3), asks=2) as fake:
+            server = Server(self.program, folder, 0, peers=[(1, fake.port)], words=alone)
             self.that("a peer that answers well", (server.serving(), server.told.find("bayou: restored 2 own writes") is not None),
                       ("serving 0 at 127.0.0.1:%s holds 2,1,0" % server.port, True))
             server.end()

@@ -6,10 +6,11 @@ import threading
 
 
 class AtRandom:
-    """A way to a server, at a port of its own, that is closed to about every second connection, as a draw has it."""
+    """A way to a server, at a port of its own, that is closed to about every second connection, as a draw has it, or as often as the chance says: at 1 to
+    each, at 0 to none. What is open stays so until it is cut."""
 
-    def __init__(self, port, seed):
-        self.to, self.draw = port, random.Random(seed)
+    def __init__(self, port, seed, chance=0.5):
+        self.to, self.draw, self.chance, self.open = port, random.Random(seed), chance, set()
         self.passed, self.closed = 0, 0
         self.socket = socket.create_server(("127.0.0.1", 0))
         self.port = self.socket.getsockname()[1]
@@ -21,7 +22,7 @@ class AtRandom:
                 near, _ = self.socket.accept()
             except OSError:
                 return
-            if self.draw.random() < 0.5:
+            if self.draw.random() < self.chance:
                 self.closed += 1
                 near.close()
                 continue
@@ -30,10 +31,18 @@ class AtRandom:
 
     def join(self, near):
         with contextlib.suppress(OSError), near, socket.create_connection(("127.0.0.1", self.to)) as far:
+            self.open |= {near}
             back = threading.Thread(target=carry, args=(far, near), daemon=True)
             back.start()
             carry(near, far)
             back.join()
+        self.open -= {near}
+
+    def cut(self):
+        """Ends what is open."""
+        for near in list(self.open):
+            with contextlib.suppress(OSError):
+                near.shutdown(socket.SHUT_RDWR)
 
     def end(self):
         self.socket.close()

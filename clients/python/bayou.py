@@ -1,4 +1,4 @@
-"""A client of Bayou servers, in one file and with the standard library alone. Copy it into your program.
+"""A client of Bayou servers, with the standard library alone. Copy it into your program, and bayou_views.py with it.
 
     import bayou
 
@@ -11,6 +11,7 @@ A session keeps what it wrote and read as two vectors, and so is never served an
 several threads at once. Servers are those of `bayou serve` (docs/SERVE.md); the bytes are those of docs/PROTOCOL.md and docs/FORMATS.md.
 """
 import contextlib
+import functools
 import hashlib
 import hmac
 import os
@@ -20,7 +21,10 @@ import socket
 import struct
 import time
 import warnings
-from typing import Any, Dict, Iterable, List, Optional, Sequence, Tuple, Union
+from typing import Any, Callable, Dict, Iterable, List, Optional, Sequence, Tuple, Union
+
+import bayou_views
+from bayou_views import Change, join as _join  # noqa: F401
 
 # What a key has, what is told of a Write, and what a program is written as.
 Value = Union[int, str]
@@ -49,6 +53,8 @@ _MAX_TEXT = 32
 _PAGE_ROWS, _MAX_ROWS = 121, 8 * _MAX_COUNT
 # What a file begins with in which sessions are kept, how many bytes its entries have at the most, and behind how many of them it is written anew.
 _HEADER, _DIGEST, _MAX_BODY, _MAX_KEPT = b"BAYOUJNL\x03\x00", 32, 8_192, 65_536
+# More bytes than a file of views has.
+_MAX_VIEWS = 65_536
 # How many keys a claim has at the most: one, and an alternative for each other.
 _CLAIMED = 5
 # For so long a server that was silent is asked after all others.
@@ -280,10 +286,6 @@ def _frame(kind, payload=b""):
     return struct.pack(">HB", len(payload) + 1, kind) + payload
 
 
-def _join(one, other):
-    return tuple(map(max, one, other))
-
-
 class Key:
     """The key of a store, in the file of this name, as `bayou key` makes it: the store's name and its secret."""
 
@@ -458,6 +460,8 @@ class _Payload:
         return _REFUSALS[code](_REFUSALS[code].__doc__)
 
 
+# Which part of what a reply carries is what its server holds.
+_VIEWS = {_SEEN: 1, _OUTCOME: 0, _LISTED: 0}
 _REPLIES = {_SEEN: _Payload.seen, _ACCEPTED: _Payload.accepted, _REFUSED: _Payload.refusal, _REOPENED: _Payload.reopened, _ITEM: _Payload.item, _END: _Payload.count,
             _WELCOME: _Payload.welcome, _KNOWN: _Payload.known, _OUTCOME: _Payload.outcome, _LISTED: _Payload.listed}
 
@@ -477,6 +481,8 @@ class _Connection:
         self.place, self.timeout = place, timeout
         self.key, self.server = key, server
         self.socket = None
+        # How many servers the store has, as the server said that was greeted last.
+        self.count: Optional[int] = None
         # What came of replies and wasn't read yet, and when the reply is to be there.
         self.came, self.latest = bytearray(), 0.0
 
@@ -486,7 +492,7 @@ class _Connection:
         self.socket = None
         self.came.clear()
 
-    def _is_open(self):
+    def is_open(self):
         """Whether the server hasn't ended the connection: nothing stands there to be read, not even its end. What stands there would be read as the
         next reply."""
         if self.socket is None or self.came:
@@ -504,7 +510,7 @@ class _Connection:
         return False
 
     def _connect(self):
-        if self._is_open():
+        if self.is_open():
             return
         self.close()
         try:
@@ -554,6 +560,7 @@ class _Connection:
         wanted = self.key.proof(b"server", nonce, theirs, bytes([server, count]))
         if name != self.key.name or not hmac.compare_digest(proof, wanted):
             raise Stranger(self.key.stranger % name.decode("ascii", "replace"))
+        self.count = count if server < count <= SERVERS else None
         return theirs
 
     def reply(self, kinds):
@@ -593,6 +600,11 @@ class _Connection:
             raise ConnectionResetError("the connection ended")
         return piece
 
+    def greet(self):
+        """Greets the server, unless it was greeted over the connection that there is."""
+        self.latest = time.monotonic() + self.timeout
+        self._connect()
+
     @contextlib.contextmanager
     def closed_where_lost(self):
         """Closes the connection where a reply doesn't come whole: what came behind it would answer the next request."""
@@ -627,10 +639,21 @@ class Link:
         self.lookups = _Connection(self.address, timeout, key or _NoKey(), server)
         # Until when it is asked after all others: it was silent.
         self.silent_until = 0.0
+        # What hears each vector that the server tells of itself.
+        self.hears: Callable[[Vector], None] = lambda vector: None
 
     def close(self) -> None:
         self.requests.close()
         self.lookups.close()
+
+    def count(self) -> Optional[int]:
+        """How many servers the store has, as this one said when it was greeted; None where it wasn't."""
+        return self.lookups.count or self.requests.count
+
+    def greet(self) -> None:
+        """Has the server say who it is, and how many servers the store has."""
+        with self._silent_where_late():
+            self.lookups.greet()
 
     def is_silent(self) -> bool:
         """Whether it was silent for its whole time, less than a minute ago."""
@@ -649,10 +672,25 @@ class Link:
             raise
         self.silent_until = 0.0
 
+    def _ask(self, connection, request, kinds):
+        """The first reply to the request; what it says that the server holds is heard, if it is the server that was asked for: it was greeted over this
+        connection, or over another one that is open."""
+        vector = None
+        try:
+            kind, carried = connection.ask(request, kinds)
+            vector = carried[_VIEWS[kind]] if kind in _VIEWS else None
+        except Behind as behind:
+            vector = behind.vector
+            raise
+        finally:
+            if vector is not None and (connection.key is not None or self.lookups.is_open()):
+                self.hears(vector)
+        return kind, carried
+
     def ask(self, request: bytes, *kinds: int) -> Tuple[int, Any]:
         """The first reply to the request, of which the kind is one of these, and what it carries."""
         with self._silent_where_late():
-            return self.requests.ask(request, kinds)
+            return self._ask(self.requests, request, kinds)
 
     def look(self, request: bytes, kind: int) -> Any:
         """What the reply to a lookup carries. A server that ends the connection in its place, or in that of a greeting, is asked once more over another,
@@ -660,7 +698,7 @@ class Link:
         with self._silent_where_late():
             for _ in range(2):
                 try:
-                    return self.lookups.ask(request, (kind,))[1]
+                    return self._ask(self.lookups, request, (kind,))[1]
                 except (Lost, Stranger) as fault:
                     if not isinstance(fault.__cause__, ConnectionError):
                         raise
@@ -670,10 +708,37 @@ class Link:
         """Has the server open its journal again, and tells the name of the Write that was adopted, if one was."""
         return self.ask(_frame(_REOPEN), _REOPENED)[1]
 
+    def vector(self) -> Vector:
+        """What the server holds."""
+        return self.look(_frame(_LIST, _vector(_ZERO) + _key("", 0) + _key("", 0) + struct.pack(">H", 0)), _LISTED)[0]
+
+    def became(self, need: Vector, origin: int, seq: int, clock: Optional[int] = None) -> Tuple[Vector, Optional[Outcome]]:
+        """What a server holds that has all of `need`, and what became there of the Write of this name; None where it isn't held. A Write of another
+        clock than that is another one, and is `Lost`."""
+        vector, outcome = self.look(_frame(_BECAME, _vector(need) + struct.pack(">BI", origin, seq)), _OUTCOME)
+        _none_unless((outcome is None) == (vector[origin] < seq))
+        _none_unless(outcome is None or seq <= outcome.clock)
+        if outcome is not None and clock not in (None, outcome.clock):
+            raise Lost("what became of another Write of this name")
+        if not bayou_views.covers(vector, need):
+            raise Lost("a read of less than was needed")
+        return vector, outcome
+
+    def offered(self, vector: Vector) -> List[Accepted]:
+        """The Writes that the server holds and the vector doesn't count, in stamp order, each as it was accepted."""
+        writes = [_Payload(item).accepted() for item in self._items(_frame(_OFFER, _vector(vector)))]
+        stamps = [(write.clock, write.origin) for write in writes]
+        _none_unless(all(before < stamp for before, stamp in zip(stamps, stamps[1:])))
+        _none_unless(all(write.seq > vector[write.origin] for write in writes))
+        return writes
+
     def dump(self) -> List[bytes]:
         """All Writes that the server holds, in order of receipt, each as its bytes."""
+        return self._items(_frame(_DUMP))
+
+    def _items(self, request):
         writes = []
-        kind, carried = self.ask(_frame(_DUMP), _ITEM, _END)
+        kind, carried = self.ask(request, _ITEM, _END)
         with self.requests.closed_where_lost():
             while kind == _ITEM and len(writes) < _MAX_COUNT:
                 writes.append(carried)
@@ -766,6 +831,16 @@ def _removed(path):
         os.remove(path)
 
 
+def _put_whole(path, text):
+    """Puts a file in the place of the one of this name that has this text, and makes that last. There is no time when the file isn't whole."""
+    part = path + ".part"
+    _removed(part)
+    with open(part, "xb", buffering=0, opener=lambda name, flags: os.open(name, flags, 0o600)) as file:
+        _put(file, text)
+    os.rename(part, path)
+    _sync_folder(path)
+
+
 class _State:
     """A file in which sessions are kept, at a store of this key or at an open one: the same as of `bayou connect --state`."""
 
@@ -776,6 +851,7 @@ class _State:
             with self._bad_where_failed():
                 self._is_labelled()
                 self.file = _locked(self.path)
+                self.views = self._views()
                 self._open()
                 self._label()
         except BaseException:
@@ -816,12 +892,32 @@ class _State:
         """Has it say beside the file of which store that is, where that has a key."""
         if self.key is None or self._is_labelled():
             return
-        label = self.path + ".store"
-        _removed(label + ".part")
-        with _locked(label + ".part") as file:
-            _put(file, self.key.label())
-            os.rename(label + ".part", label)
-        _sync_folder(label)
+        _put_whole(self.path + ".store", self.key.label())
+
+    def _views(self):
+        """What is kept beside the file of what servers hold and of what is final."""
+        self.kept_views = None
+        try:
+            with open(self.path + ".views", "rb") as file:
+                self.kept_views = file.read(_MAX_VIEWS)
+            return bayou_views.Views.of(self.kept_views)
+        except FileNotFoundError:
+            return bayou_views.Views()
+        except bayou_views.NoViews as fault:
+            raise self.bad_views("it keeps no views: %s; nothing was changed" % fault) from None
+
+    def bad_views(self, why):
+        return BadState("%s.views: %s. Without it only what was known as final is lost" % (self.path, why))
+
+    def keep_views(self, text):
+        """Keeps that in its place, and makes it last."""
+        self.check()
+        if text == self.kept_views:
+            return
+        self.is_down = True
+        with self._bad_where_failed():
+            _put_whole(self.path + ".views", text)
+        self.kept_views, self.is_down = text, False
 
     def _open(self):
         """Reads what is kept. What a call left that was cut off is cut, and anything else that isn't as it must be is left as it is."""
@@ -893,7 +989,7 @@ class _State:
         _sync_folder(self.path)
 
 
-class Session:
+class Session(bayou_views.Finality):
     """A session at the servers of these addresses, server 0 first: `None` stands for one that can't be reached from here.
 
     `asks` says what it asks for, any of "ryw" (Read Your Writes), "mr" (Monotonic Reads), "wfr" (Writes Follow Reads) and "mw" (Monotonic
@@ -903,8 +999,11 @@ class Session:
     second more for each 4,096 bytes that came; for a minute it is asked after all others then, where any server may be asked.
 
     `state` is a file in which the session is kept from one run of a program to the next, the same as of `bayou connect --state`: what the session was told
-    is kept before it is told here, and a Write before it is sent. Its number is 0 there, if none is given, and it asks for what it asked for first.
+    is kept before it is told here, and a Write before it is sent. Its number is 0 there, if none is given, and it asks for what it asked for first. What is
+    known as final is kept beside it, in a file of its name and `.views`.
     """
+
+    _name_of, _unanswered = staticmethod(_name), (Away, Lost, Older, Refused)
 
     def __init__(self, addresses: Sequence[Optional[str]], asks: Optional[Iterable[str]] = None, number: Optional[int] = None, run: Optional[int] = None,
                  timeout: float = 3.0, key: Optional[Path] = None, state: Optional[Path] = None):
@@ -931,6 +1030,11 @@ class Session:
         # What was listed last of each prefix of which changes were asked for.
         self.listed = {}
         self.state = None if state is None else _State(state, found)
+        # What servers told that they hold, and what is final by that.
+        self.views = bayou_views.Views() if self.state is None else self.state.views
+        for server, link in enumerate(self.links):
+            if link is not None:
+                link.hears = functools.partial(self._heard, server)
         kept = None if self.state is None else self.state.kept(self.number)
         if kept is not None:
             self._go_on(kept, said)
@@ -964,11 +1068,16 @@ class Session:
         finally:
             self._keep()
 
+    def _of_another_store(self, why):
+        return BayouError("what is known as final: " + why) if self.state is None else self.state.bad_views(why)
+
     def close(self) -> None:
         for link in self.links:
             if link is not None:
                 link.close()
         if self.state is not None:
+            with contextlib.suppress(BadState):
+                self._keep_views()
             self.state.close()
 
     def __enter__(self) -> "Session":
@@ -1041,9 +1150,8 @@ class Session:
         """A Write was accepted, by what was to be this server, which had to hold that."""
         if accepted.origin != server or not all(has >= wants for has, wants in zip(accepted.deps, need)):
             raise Lost("a Write of another server, or before less than was needed")
-        written = list(self.has_written)
-        written[server] = max(written[server], accepted.seq)
-        self.has_written = tuple(written)
+        self._follow(accepted)
+        self.has_written = bayou_views.raised(self.has_written, server, accepted.seq)
         self.pending = None
 
     def list(self, prefix: str = "", server: int = 0) -> Listing:
@@ -1111,16 +1219,11 @@ class Session:
         """What became of a Write, which was accepted or has this name, at that server, or else at the one that accepted it: None where it isn't held. It is
         a read of the session. Another server may tell something else, and so may the same one later: the order of Writes is tentative."""
         origin, seq = _name(accepted)
-        need = self.need("mr", "ryw")
-        request = _frame(_BECAME, _vector(need) + struct.pack(">BI", origin, seq))
+        need, clock = self.need("mr", "ryw"), accepted.clock if isinstance(accepted, Accepted) else None
         link = self._link(origin if server is None else server)
         self._begin()
         with self._kept():
-            vector, outcome = link.look(request, _OUTCOME)
-            _none_unless((outcome is None) == (vector[origin] < seq))
-            _none_unless(outcome is None or seq <= outcome.clock)
-            if outcome is not None and isinstance(accepted, Accepted) and outcome.clock != accepted.clock:
-                raise Lost("what became of another Write of this name")
+            vector, outcome = link.became(need, origin, seq, clock)
             self._saw(vector, need)
         return outcome
 

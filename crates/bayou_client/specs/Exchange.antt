@@ -51,7 +51,7 @@ asks_vector = record {
 abbrev pub asks_reopening : Asks (Option Wid)
 asks_reopening = record { many = false; answers = λ writes last adopted. last ≡ frames.Reopened adopted; may_refuse = refuses_reopening }
 
--- a dump is the Writes of the Items, and an End of their number; it may be refused for anything
+-- a dump, or what a vector lacks, is the Writes of the Items, and an End of their number; it may be refused for anything
 abbrev pub asks_dump : Asks (Vec Write)
 asks_dump = record {
   many = true;

@@ -4,7 +4,7 @@ ghost use Rattle.std.specs.Io.KnownBytes.{Consumes, IsAtEnd};
 ghost use Rattle.bayou_base.specs.declared.limits.TheConstants.{MAX_TURNS, SERVERS};
 ghost use Rattle.bayou_client.specs.Exchange.{IsGone, LinkEnds, asks_dump, asks_read, asks_reopening, asks_vector, asks_write};
 ghost use Rattle.bayou_client.specs.Inner.Exchanging.{Exchanges, Opens};
-ghost use Rattle.bayou_wire.specs.declared.frame.Frame.TheVariants.{Dump, Read as ReadFrame, Reopen};
+ghost use Rattle.bayou_wire.specs.declared.frame.Frame.TheVariants.{Dump, Offer, Read as ReadFrame, Reopen};
 ghost use Rattle.bayou_wire.specs.Stream.{spelling};
 
 use crate::fault::LinkFault;
@@ -175,6 +175,25 @@ impl<R: Read, W: Write> Link<R, W> {
         ensures turns { self.new.channel.turns_left ≤ self.old.channel.turns_left }
     {
         let reply = exchange(alloc, self, &Frame::Dump, true)?;
+        let told = dumped_of(reply);
+        self.is_closed = !is_answered(&told);
+        told
+    }
+
+    /// The Writes that the server holds and these counts don't cover, as it sends them: in stamp order, if it is one of ours. It is asked as by a peer, and
+    /// takes nothing in return.
+    pub fn lacking(
+        &mut self,
+        alloc: Global,
+        counts: &Vector,
+    ) -> Result<Vec<RestingWrite>, LinkFault>
+        ensures ends { (read : List ℕ) × Consumes (R.remaining self.old.channel.reader) (R.remaining self.new.channel.reader) read
+            × LinkEnds asks_dump (spelling (Offer counts.now)) (W.contents self.old.channel.writer) (W.contents self.new.channel.writer) read self.old.is_closed self.new.is_closed
+            (IsGone self.new.channel.read_failed self.new.channel.write_failed self.new.channel.turns_left (IsAtEnd (R.remaining self.new.channel.reader))) result }
+        ensures closed { self.old.is_closed ≡ true → self.new ≡ self.old }
+        ensures turns { self.new.channel.turns_left ≤ self.old.channel.turns_left }
+    {
+        let reply = exchange(alloc, self, &Frame::Offer(*counts), true)?;
         let told = dumped_of(reply);
         self.is_closed = !is_answered(&told);
         told

@@ -24,6 +24,7 @@ plain_service = record {
   folder = codes "d";
   listen = codes "h:1";
   peers = [];
+  left_out = [];
   key = None;
   every_seconds = 1;
   limit = 65536;

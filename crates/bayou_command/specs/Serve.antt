@@ -10,10 +10,11 @@ use Rattle.bayou_command.specs.declared.serving.Serving.{Serving}
 abbrev pub needed_rules : List Rule
 needed_rules = needed (number_rule (codes "id") 0 (SERVERS - 1)) ∷ needed (number_rule (codes "servers") 1 SERVERS) ∷ folder_rule ∷ needed (option_rule (codes "listen")) ∷ []
 
--- what may be there; `peer` as often as one likes
+-- what may be there; `peer` and `without` as often as one likes
 abbrev pub choice_rules : List Rule
 choice_rules = record (option_rule (codes "peer")) { action = Some Append } ∷ number_rule (codes "every") 1 MAX_SECONDS ∷ number_rule (codes "limit") 1 MAX_WRITES
-    ∷ number_rule (codes "connections") 1 MAX_CONNECTIONS ∷ number_rule (codes "idle") 1 MAX_SECONDS ∷ file_option_rule (codes "key") ∷ []
+    ∷ number_rule (codes "connections") 1 MAX_CONNECTIONS ∷ number_rule (codes "idle") 1 MAX_SECONDS ∷ file_option_rule (codes "key")
+    ∷ record (option_rule (codes "without")) { action = Some Append } ∷ []
 
 abbrev pub flag_rules : List Rule
 flag_rules = flag_rule (codes "until-input-ends") ∷ flag_rule (codes "new") ∷ flag_rule (codes "restore") ∷ flag_rule (codes "anyone") ∷ []
@@ -29,6 +30,7 @@ pub record Service : Type 0 where
   pub folder : Text
   pub listen : Text
   pub peers : List Text
+  pub left_out : List Text
   pub key : Option Text
   pub every_seconds : ℕ
   pub limit : ℕ
@@ -47,6 +49,7 @@ service_of rows = record {
   folder = text_of folder_name rows;
   listen = text_of (codes "listen") rows;
   peers = texts_of (codes "peer") rows;
+  left_out = texts_of (codes "without") rows;
   key = given_of (codes "key") rows;
   every_seconds = number_of (codes "every") 1 MAX_SECONDS DEFAULT_EVERY_SECONDS rows;
   limit = number_of (codes "limit") 1 MAX_WRITES MAX_WRITES rows;
@@ -66,6 +69,7 @@ service_seen serving = record {
   folder = serving.folder.now;
   listen = serving.listen.now;
   peers = map (λ peer. peer.now) serving.peers.items;
+  left_out = map (λ server. server.now) serving.left_out.items;
   key = option_map (λ name. name.now) serving.key;
   every_seconds = serving.every_seconds;
   limit = serving.limit;

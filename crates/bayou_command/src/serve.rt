@@ -48,7 +48,10 @@ const UNTIL: &str = "Ends where the standard input ends";
 const NEW: &str = "Makes the journal, for a server that is new";
 
 const RESTORE: &str =
-    "Makes the journal again, of what the peers have, for a server that has lost it";
+    "Makes the journal again, of what all others have, for a server that has lost it";
+
+const WITHOUT: &str =
+    "With --restore: goes on without this server, and what was told as final may change";
 
 const ANYONE: &str = "Listens at an address that other machines reach, too";
 
@@ -57,8 +60,9 @@ const SERVE_FORM: &str =
 DIR/server-I.journal. DIR must exist. --new makes the journal, so give it the first time alone: without it a journal that isn't there is a
 fault, since a wrong DIR would else be a store that has lost everything.
 
---restore takes the place of --new for a server whose journal is lost: it makes the journal again, of the Writes that its peers have of it.
-What none of them has is lost, and its names are given to other Writes (docs/RECOVERY.md).
+--restore takes the place of --new for a server whose journal is lost: it makes the journal again, of all that every other server has, before it
+serves. What none of them has is lost, and its names are given to other Writes. Where one of them is away nothing is restored: bring it up, or put
+--without I in the place of its --peer (docs/RECOVERY.md).
 
 Three servers on one machine, each in a terminal of its own:
 
@@ -113,6 +117,7 @@ fn with_choices<'a>(alloc: Global, command: Command<'a>) -> Result<Command<'a>, 
     ensures local { IfOk result (λ made. (fields_of made).has_globals ≡ (fields_of command.entry).has_globals) }
 {
     let peer = value_option(alloc, "peer", "I=ADDRESS:PORT", PEER);
+    let without = value_option(alloc, "without", "I", WITHOUT);
     let every = number_option(alloc, "every", "SECONDS", EVERY, 1, MAX_SECONDS);
     let limit = number_option(alloc, "limit", "L", LIMIT, 1, MAX_WRITES);
     let connections = number_option(alloc, "connections", "C", CONNECTIONS, 1, MAX_CONNECTIONS);
@@ -123,7 +128,8 @@ fn with_choices<'a>(alloc: Global, command: Command<'a>) -> Result<Command<'a>, 
         .arg(limit)?
         .arg(connections)?
         .arg(idle)?
-        .arg(file_option(alloc, "key", KEY))
+        .arg(file_option(alloc, "key", KEY))?
+        .arg(without.action(ArgAction::Append))
 }
 
 // The command with its flags.
@@ -171,6 +177,7 @@ pub(crate) fn serving_in<'a>(
         folder: folder_in(found),
         listen: text_in(found, "listen"),
         peers: texts_in(alloc, found, "peer")?,
+        left_out: texts_in(alloc, found, "without")?,
         key: text_if_given(found, "key"),
         every_seconds: every,
         limit: number_in(found, "limit", 1, MAX_WRITES, MAX_WRITES),

@@ -14,6 +14,8 @@ pub struct Serving<'a> {
     pub listen: &'a str,
     /// Whom it pulls from, each as it was written, in the order of the words.
     pub peers: Vec<&'a str>,
+    /// Without whom it is restored, each as it was written, in the order of the words.
+    pub left_out: Vec<&'a str>,
     /// The file of its store's key, if the store has one.
     pub key: Option<&'a str>,
     /// After how many seconds it pulls again.

@@ -2,6 +2,7 @@ pub mod Anew
 pub mod Anywhere
 pub mod Faults
 pub mod Filing
+pub mod Finals
 pub mod Found
 pub mod Keeping
 pub mod Operating

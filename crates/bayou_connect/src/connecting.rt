@@ -8,12 +8,14 @@ use crate::audit_file::AuditFile;
 use crate::desk::{Desk, OWN, numbered};
 use crate::doing::{Became, Wrong, do_line};
 use crate::fault::ConnectFault;
+use crate::finals::Telling;
 use crate::lines::{Lines, Next};
 use crate::plan::{Plan, asks_of_both, asks_text};
 use crate::reach::{DRAWN_BYTES, Greeter};
 use crate::remembering::{Remembered, StateFile, remember};
 use crate::round::ROUNDS_PER_SECOND;
 use crate::store::Store;
+use crate::views_file::ViewsFile;
 use bayou_base::{Asks, SESSIONS, SessionId};
 use bayou_client::Asker;
 use bayou_greeting::StoreKey;
@@ -130,8 +132,10 @@ where
     } = input;
     let mut lines = Lines::new(desk.alloc, reader);
     let mut is_wrong = false;
+    desk.tell_finals(rt, output, Telling::News)?;
     for number in 1..u64::MAX {
         if is_terminal {
+            desk.tell_finals(rt, output, Telling::News)?;
             prompt(desk, errors)?;
         }
         let became = do_next(rt, desk, &mut lines, output)?;
@@ -155,6 +159,7 @@ where
             }
         }
     }
+    desk.store.keep_views(rt)?;
     Ok(match (is_wrong, desk.is_served) {
         (true, _) => Ended::Refused,
         (false, true) => Ended::Served,
@@ -215,6 +220,7 @@ fn first_number<T: RandomSource>(rt: &T, is_kept: bool) -> Result<SessionId, Con
 #[derive(Drop)]
 struct Found {
     state: Option<StateFile>,
+    views: Option<ViewsFile>,
     sessions: Vec<Option<Asker>>,
     ghost one_each: { vec_len sessions ≡ NUMBER },
 }
@@ -246,6 +252,7 @@ fn found_in<E: Write, T: Files<File = File>>(
     let Some(path) = name else {
         return Ok(Found {
             state: None,
+            views: None,
             sessions: nothing_kept(alloc)?,
         });
     };
@@ -257,9 +264,11 @@ fn found_in<E: Write, T: Files<File = File>>(
     if let Some(entry) = entry {
         tell_entry(alloc, errors, path, entry)?;
     }
+    let views = Some(ViewsFile::open(rt, alloc, path)?);
     let path = path.to_string(alloc)?;
     Ok(Found {
         state: Some(StateFile::new(memory, path, run)),
+        views,
         sessions: all,
     })
 }
@@ -341,6 +350,7 @@ fn desk_of(
         rounds: u64::from(plan.wait_seconds) * ROUNDS_PER_SECOND,
         opened: [false; SESSIONS],
         is_served: true,
+        is_void: false,
     }
 }
 
@@ -366,7 +376,11 @@ where
 {
     let run = drawn_run(rt)?;
     let first_number = first_number(rt, names.state.is_some())?;
-    let Found { state, sessions } = found_in(rt, alloc, names.state, &key, run, errors)?;
+    let Found {
+        state,
+        views,
+        sessions,
+    } = found_in(rt, alloc, names.state, &key, run, errors)?;
     let Some(asks) = own_asks(plan, &sessions, OWN) else {
         if let (Some(path), Some(said), Some(kept)) = (
             names.state,
@@ -384,6 +398,7 @@ where
         sessions,
         state,
         book,
+        views,
         plan.timeout_seconds,
         greeter_of(rt, alloc, key)?,
     )?;

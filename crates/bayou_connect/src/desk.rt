@@ -16,7 +16,7 @@ use crate::saying::{nothing_line, told_line};
 use crate::store::Store;
 use crate::told::Told;
 use bayou_answers::Answer;
-use bayou_base::{Asks, Key, SESSIONS, ServerId, SessionId, Wid};
+use bayou_base::{Accepted, Asks, Key, SESSIONS, ServerId, SessionId, Wid};
 use bayou_lang::RestingProgram;
 use bayou_net::Sockets;
 use bayou_print::{last_line, write_text};
@@ -50,6 +50,8 @@ pub(crate) struct Desk {
     pub(crate) opened: [bool; SESSIONS],
     /// Whether each operation was served so far.
     pub(crate) is_served: bool,
+    /// Whether an own Write was told to have come to nothing for good.
+    pub(crate) is_void: bool,
     pub(crate) ghost number: { servers ≤ NUMBER },
     pub(crate) ghost runs: { 0 < run },
 }
@@ -59,6 +61,7 @@ pub(crate) struct Desk {
 pub(crate) struct Made {
     pub(crate) at: usize,
     pub(crate) wid: Wid,
+    pub(crate) clock: u32,
 }
 
 /// The number that a session has in tags and in the book, where session 0 has this one first: it is so many further on, and 0 comes after the last.
@@ -191,10 +194,11 @@ impl Desk {
         }
     }
 
-    // The Write of this name, where its server is at hand.
-    fn made_of(&self, wid: Wid) -> Option<Made> {
+    // The Write that was accepted, where its server is at hand.
+    fn made_of(&self, accepted: &Accepted) -> Option<Made> {
+        let (wid, clock) = (accepted.wid, accepted.stamp.clock);
         let at = self.store.place_of(wid.origin)?;
-        Some(Made { at, wid })
+        Some(Made { at, wid, clock })
     }
 
     // Opens the session, unless a line did so before.
@@ -268,7 +272,7 @@ impl Desk {
         let attempt = Attempt::Write(program);
         let told = anywhere(rt, &mut self.store, who, &attempt, self.first, self.rounds)?;
         let made = match &told {
-            Told::Accepted(accepted) => self.made_of(accepted.wid),
+            Told::Accepted(accepted) => self.made_of(accepted),
             _ => None,
         };
         self.finish(output, who, &None, told)?;

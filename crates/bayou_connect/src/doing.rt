@@ -4,6 +4,7 @@ ghost use Rattle.bayou_connect.specs.Speaking.{spoken_of};
 
 use crate::desk::{Desk, OWN, print};
 use crate::fault::ConnectFault;
+use crate::finals::{Telling, WAIT_SECONDS};
 use crate::help::HELP;
 use bayou_net::Sockets;
 use bayou_person::{WishFault, wish_in};
@@ -48,6 +49,10 @@ pub(crate) enum Spoken {
     Again,
     /// To be told what lines there are.
     Help,
+    /// To be told how own Writes stand.
+    Mine,
+    /// To wait until own Writes are final.
+    Wait,
     /// To end.
     Quit,
 }
@@ -81,6 +86,16 @@ fn do_script_line<W: Write, T: Files<File = File> + Sockets + Wait + Clock>(
     Ok(Became::Wrong(Wrong::Script(ScriptFault::OutOfPlace)))
 }
 
+// For how many seconds a line asks to wait, if it says that in digits behind the word.
+fn seconds_in(line: &[u8]) -> Option<u32> {
+    let text = str::from_utf8(line).ok()?;
+    let (first, seconds) = text.split_once(' ')?;
+    if first != "wait" || !seconds.as_bytes().iter().all(|byte| byte.is_ascii_digit()) {
+        return None;
+    }
+    seconds.parse::<u32>().ok()
+}
+
 // The line that a person says of the lines themselves, if it is one.
 fn spoken_in(line: &[u8]) -> Option<Spoken>
     ensures { result ≡ spoken_of line.now }
@@ -89,6 +104,8 @@ fn spoken_in(line: &[u8]) -> Option<Spoken>
         b"again" => Some(Spoken::Again),
         b"help" => Some(Spoken::Help),
         b"quit" => Some(Spoken::Quit),
+        b"mine" => Some(Spoken::Mine),
+        b"wait" => Some(Spoken::Wait),
         _ => None,
     }
 }
@@ -123,11 +140,16 @@ fn do_short_line<W: Write, T: Files<File = File> + Sockets + Wait + Clock>(
     line: &[u8],
 ) -> Result<Became, ConnectFault> {
     match spoken_in(line) {
-        None => return do_wish(rt, desk, output, line),
+        None => match seconds_in(line) {
+            None => return do_wish(rt, desk, output, line),
+            Some(seconds) => desk.wait_for_finals(rt, output, seconds)?,
+        },
         Some(Spoken::Again) => {
             desk.ask_again(rt, output, OWN)?;
         }
         Some(Spoken::Help) => print(output, HELP)?,
+        Some(Spoken::Mine) => desk.tell_finals(rt, output, Telling::All)?,
+        Some(Spoken::Wait) => desk.wait_for_finals(rt, output, WAIT_SECONDS)?,
         Some(Spoken::Quit) => return Ok(Became::Quit),
     }
     Ok(Became::Done)

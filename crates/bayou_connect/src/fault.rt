@@ -37,6 +37,9 @@ pub enum ConnectFault {
     /// The label of the state can't be read or written, or is none.
     #[error("its .store can't be read or written, or says no store")]
     NotALabel,
+    /// What is kept beside the state of what is final can't be read or written, or is none.
+    #[error("its .views can't be read or written, or keeps nothing of a store; without that file what is final is learned anew")]
+    Views,
     /// The file of the book can't be opened or locked, or is of another number of servers.
     #[error("it can't be opened, another process has it, or it is of other servers")]
     BookNotOpened,
@@ -59,6 +62,7 @@ impl ConnectFault {
             | ConnectFault::StateDamaged { .. }
             | ConnectFault::OtherStore(_)
             | ConnectFault::NotALabel
+            | ConnectFault::Views
             | ConnectFault::State => true,
             ConnectFault::Input
             | ConnectFault::LinesNotOpened

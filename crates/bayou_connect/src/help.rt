@@ -11,6 +11,8 @@ again              asks the last Write once more, where its reply was lost or it
 at I               server I is the first to be asked from here on
 list [P]           each key that has a value, or each that begins with P, and that value, in the order of their bytes
 became I:N         what became of Write N of server I: its update, an alternative, or nothing was applied
+mine               how your own Writes stand that weren't final: tentative, changed or final, and what became of each
+wait [SECONDS]     waits until they are final, and tells each as it is; for 60 seconds where nothing is said
 servers            each server, and what it holds, or that it is away
 session            what the session asks for, and what it read and wrote
 dump               puts what each server holds into the book, once, at the end

@@ -5,10 +5,11 @@ use crate::anywhere::anywhere;
 use crate::asking::Attempt;
 use crate::desk::{Desk, print};
 use crate::fault::ConnectFault;
+use crate::looking::Beyond;
 use crate::told::Told;
 use bayou_base::{Key, MAX_OPS, MAX_WRITES, Prefix, SessionId, Value, Vector};
 use bayou_net::Sockets;
-use bayou_print::{LIST_LOST, row_line, rows_line};
+use bayou_print::{LIST_LOST, row_line, rows_line, standing_row_line};
 use bayou_streams::Output;
 use bayou_wire::layout::ROWS_AT_ONCE;
 use bayou_wire::{Page, RowsAsked};
@@ -189,12 +190,41 @@ impl Desk {
         Ok(Err(Told::Lost))
     }
 
-    // Prints the rows, and behind them how many there are and what was held.
+    // Which keys may change yet where these rows were told, as far as that is known.
+    fn beyond<T: Sockets + Clock>(
+        &mut self,
+        rt: &T,
+        rows: &Rows,
+    ) -> Result<Option<Beyond>, ConnectFault> {
+        if rows.is_mixed || !self.store.keeps_finals() {
+            return Ok(None);
+        }
+        self.store
+            .beyond_at(rt, self.store.asked_last(), &rows.vector)
+    }
+
+    // Prints a row, and how its value stands, where that is known.
+    fn print_row<W: Write>(
+        &mut self,
+        output: &mut Output<W>,
+        row: &(Key, Value),
+        beyond: &Option<Beyond>,
+    ) -> Result<(), ConnectFault> {
+        let value = Some(row.1.copy());
+        let line = match self.standing(beyond, &row.0) {
+            None => row_line(self.alloc, &row.0, &value)?,
+            Some(standing) => standing_row_line(self.alloc, &row.0, &value, standing)?,
+        };
+        print(output, line.as_str())
+    }
+
+    // Prints the rows, with how each value stands where that is known, and behind them how many there are and what was held.
     fn print_rows<W: Write>(
         &mut self,
         output: &mut Output<W>,
         prefix: Option<&Key>,
         rows: Rows,
+        beyond: &Option<Beyond>,
     ) -> Result<(), ConnectFault> {
         let Rows {
             each,
@@ -202,8 +232,7 @@ impl Desk {
             is_mixed,
         } = rows;
         for row in &each {
-            let line = row_line(self.alloc, &row.0, &Some(row.1.copy()))?;
-            print(output, line.as_str())?;
+            self.print_row(output, row, beyond)?;
         }
         let line = rows_line(
             self.alloc,
@@ -227,7 +256,10 @@ impl Desk {
     ) -> Result<(), ConnectFault> {
         let begins = prefix_of(prefix);
         match self.rows_of(rt, who, &begins)? {
-            Ok(rows) => self.print_rows(output, prefix, rows),
+            Ok(rows) => {
+                let beyond = self.beyond(rt, &rows)?;
+                self.print_rows(output, prefix, rows, &beyond)
+            }
             Err(Told::Refused(refusal)) => {
                 self.finish(output, who, &None, Told::Refused(refusal))
             }

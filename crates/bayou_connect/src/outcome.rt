@@ -47,7 +47,7 @@ impl Desk {
 
     /// Prints what became of a Write that was accepted, by the server that accepted it; that this is unknown, where that doesn't tell. It is asked for
     /// nobody: the session has read nothing by it.
-    pub(crate) fn tell_outcome<W: Write, T: Sockets + Clock>(
+    pub(crate) fn tell_outcome<W: Write, T: Files<File = File> + Sockets + Clock>(
         &mut self,
         rt: &T,
         output: &mut Output<W>,
@@ -58,6 +58,7 @@ impl Desk {
             Some(fate) => fate.placed,
             None => None,
         };
+        self.keep_own(rt, output, made, &placed)?;
         self.print_placed(output, who, made.wid, &placed)?;
         Ok(placed)
     }

@@ -8,7 +8,7 @@ use bayou_base::ServerId;
 use bayou_base::limits::SILENT_SECONDS;
 use bayou_client::Link;
 use bayou_greeting::{StoreKey, Stranger};
-use bayou_handshake::{GreetingFault, OLDER_AFTER, greet_server};
+use bayou_handshake::{GreetingFault, Met, OLDER_AFTER, meet_server};
 use bayou_net::Sockets;
 use bayou_streams::CountedChannel;
 use bayou_wire::layout::{GREETING_VERSION, NONCE_BYTES};
@@ -119,6 +119,8 @@ pub(crate) struct Access {
     lookups: Option<TcpStream>,
     /// What it told as it was greeted last.
     known: Option<Known>,
+    /// How many servers its store has, as it told as it was greeted last.
+    servers: Option<ServerCount>,
     /// Who answered in its place last, if somebody else did; and whether that is still to be told.
     stranger: Option<Stranger>,
     is_news: bool,
@@ -183,6 +185,7 @@ impl Access {
             requests: None,
             lookups: None,
             known: None,
+            servers: None,
             stranger: None,
             is_news: false,
             deadline: Deadline::new(0, 0),
@@ -273,9 +276,10 @@ impl Access {
             return Greeted::Not;
         };
         let hello = greeter.hello(self.place.id);
-        match greet_server(greeter.alloc, &hello, &greeter.key, None, &mut channel) {
-            Ok(known) => {
+        match meet_server(greeter.alloc, &hello, &greeter.key, None, &mut channel) {
+            Ok(Met { servers, known }) => {
                 self.known = Some(known);
+                self.servers = Some(servers);
                 self.stranger = None;
                 Greeted::Over(stream)
             }
@@ -317,6 +321,13 @@ impl Access {
         ensures { result.now ≡ self.now.known }
     {
         &self.known
+    }
+
+    /// How many servers its store has, if it ever told that.
+    pub(crate) fn servers(&self) -> Option<ServerCount>
+        ensures { result ≡ self.now.servers }
+    {
+        self.servers
     }
 
     /// Has the server greeted anew before the next request.

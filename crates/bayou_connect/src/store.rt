@@ -17,6 +17,7 @@ use crate::reach::{Access, Greeter, Purpose};
 use crate::remembering::StateFile;
 use crate::round::{but_last, in_turn};
 use crate::told::Told;
+use crate::views_file::{ViewsFile, view_in};
 use bayou_base::{Asks, Entry, Key, Seen, ServerId, SessionId, Vector, Wid};
 use bayou_client::{Asker, LinkFault};
 use bayou_greeting::Stranger;
@@ -32,15 +33,19 @@ use std::time::Clock;
 /// What a person has at hand.
 #[derive(Drop)]
 pub(crate) struct Store {
-    alloc: Global,
-    accesses: Vec<Access>,
+    pub(crate) alloc: Global,
+    pub(crate) accesses: Vec<Access>,
     /// What each session is, by its number, where it was opened or kept.
     sessions: Vec<Option<Asker>>,
     state: Option<StateFile>,
     book: Option<AuditFile>,
+    /// What is known to be final, where that is kept.
+    pub(crate) views: Option<ViewsFile>,
+    /// What the server held that answered a session last, where that was a read.
+    read_last: Option<Vector>,
     /// How long a server has for its connection and its whole reply.
-    timeout_seconds: u32,
-    greeter: Greeter,
+    pub(crate) timeout_seconds: u32,
+    pub(crate) greeter: Greeter,
     /// Which server a session asked last, by its place in the list.
     asked_last: usize,
     ghost one_each: { vec_len sessions ≡ NUMBER },
@@ -61,8 +66,8 @@ fn enter(
     }
 }
 
-// What was answered, unless the server didn't answer.
-fn answered<A>(told: Result<A, LinkFault>) -> Result<Option<A>, ConnectFault>
+/// What was answered, unless the server didn't answer.
+pub(crate) fn answered<A>(told: Result<A, LinkFault>) -> Result<Option<A>, ConnectFault>
     ensures { IfOk result (λ answer. MatchOption answer (IsErr told) (λ answer. told ≡ Ok answer)) }
 {
     match told {
@@ -105,6 +110,7 @@ impl Store {
         sessions: Vec<Option<Asker>>,
         state: Option<StateFile>,
         book: Option<AuditFile>,
+        views: Option<ViewsFile>,
         timeout_seconds: u32,
         greeter: Greeter,
     ) -> Result<Self, AllocError>
@@ -118,6 +124,8 @@ impl Store {
             sessions,
             state,
             book,
+            views,
+            read_last: None,
             timeout_seconds,
             greeter,
             asked_last: 0,
@@ -196,9 +204,8 @@ impl Store {
         Ok(())
     }
 
-    /// Has the session do this at a server, by its place in the list. A Write is kept before it is sent, and what was told before anybody
-    /// is told of it.
-    pub(crate) fn ask_at<T: Files<File = File> + Sockets + Clock>(
+    // As `ask_at`; what the server held isn't noted.
+    fn attempt_at<T: Files<File = File> + Sockets + Clock>(
         &mut self,
         rt: &T,
         who: SessionId,
@@ -228,6 +235,45 @@ impl Store {
         access.settle(rt, &link);
         enter(alloc, &mut self.book, &done.entry)?;
         Ok(done.told)
+    }
+
+    /// Has the session do this at a server, by its place in the list. A Write is kept before it is sent, and what was told before anybody
+    /// is told of it.
+    pub(crate) fn ask_at<T: Files<File = File> + Sockets + Clock>(
+        &mut self,
+        rt: &T,
+        who: SessionId,
+        at: usize,
+        attempt: Attempt,
+    ) -> Result<Told, ConnectFault>
+        ensures { IfOk result (λ told. HasAsked self.old.accesses.items at attempt self.old.sessions.items self.new.sessions.items self.new.state who.index told) }
+    {
+        let told = self.attempt_at(rt, who, at, attempt)?;
+        self.note(at, &told);
+        Ok(told)
+    }
+
+    // Notes what the server of this place in the list told of an operation.
+    fn note(&mut self, at: usize, told: &Told)
+        ensures { (self.new.sessions ≡ self.old.sessions) × (self.new.state ≡ self.old.state) × (self.new.book ≡ self.old.book) × (self.new.accesses ≡ self.old.accesses) }
+    {
+        self.read_last = match told {
+            Told::Seen(seen) => Some(seen.vector),
+            _ => None,
+        };
+        if let Some(view) = view_in(told) {
+            self.hear_at(at, &view);
+        }
+    }
+
+    /// What the server held that answered a session last, where that was a read of a key and it is kept what is final.
+    pub(crate) fn read_last(&self) -> Option<Vector>
+        ensures { self.now.views ≡ None → result ≡ None }
+    {
+        match &self.views {
+            Some(_) => self.read_last,
+            None => None,
+        }
     }
 
     /// Which server a session asked last, by its place in the list.

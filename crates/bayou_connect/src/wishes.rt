@@ -39,6 +39,17 @@ impl Desk {
         }
     }
 
+    // Reads the key, and tells how its value stands, where it is kept what is final.
+    fn get_one<W: Write, T: Files<File = File> + Sockets + Wait + Clock>(
+        &mut self,
+        rt: &T,
+        output: &mut Output<W>,
+        key: &Key,
+    ) -> Result<(), ConnectFault> {
+        self.get(rt, output, OWN, key.copy())?;
+        self.tell_key_standing(rt, output, key)
+    }
+
     // Reads these keys, one after another.
     fn get_all<W: Write, T: Files<File = File> + Sockets + Wait + Clock>(
         &mut self,
@@ -47,7 +58,7 @@ impl Desk {
         keys: &[Key],
     ) -> Result<(), ConnectFault> {
         for key in keys {
-            self.get(rt, output, OWN, key.copy())?;
+            self.get_one(rt, output, key)?;
         }
         Ok(())
     }
@@ -61,7 +72,7 @@ impl Desk {
     ) -> Result<bool, ConnectFault> {
         match wish {
             Wish::Get { key, others } => {
-                self.get(rt, output, OWN, key)?;
+                self.get_one(rt, output, &key)?;
                 self.get_all(rt, output, others.as_slice())?;
             }
             Wish::At(server) => match self.store.place_of(server) {

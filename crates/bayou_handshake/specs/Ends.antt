@@ -5,6 +5,7 @@ use Rattle.bayou_greeting.specs.declared.proofs_of_key.Nonces.{Nonces}
 use Rattle.bayou_greeting.specs.declared.store_key.StoreKey.{StoreKey}
 use Rattle.bayou_greeting.specs.Greets.{IsExpected, IsOfStore, nonces_of}
 use Rattle.bayou_greeting.specs.Proofs.{IsAdmitted, client_proof, server_proof}
+use Rattle.bayou_handshake.specs.declared.client_end.Met.{Met}
 use Rattle.bayou_handshake.specs.declared.server_end.Guest.{Guest}
 use Rattle.bayou_handshake.specs.declared.server_end.StoreServer.{StoreServer}
 use Rattle.bayou_wire.specs.declared.greeting.Greeting.TheVariants as greetings
@@ -57,3 +58,7 @@ pub record IsKnownServer (hello : Hello) (key : Option StoreKey) (held : Option 
   pub came : read ≡ greeting_bytes (greetings.Welcome welcome) ++ greeting_bytes (greetings.Known known)
   pub sent : written ≡ greeting_bytes (greetings.Hello hello)
       ++ greeting_bytes (greetings.Proof (record { proof = proof_of_client key (nonces_of hello welcome); held = held }))
+
+-- and its store has so many servers, as its Welcome says
+abbrev pub IsMetServer : Hello → Option StoreKey → Option Held → (read written : List ℕ) → Met → Type 0
+IsMetServer hello key held read written met = (server : IsKnownServer hello key held read written met.known) × (met.servers ≡ server.welcome.servers)

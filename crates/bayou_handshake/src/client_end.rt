@@ -1,7 +1,7 @@
 //! The end of who asks a server.
 ghost use Rattle.std.specs.Prelude.{◌≡◌, ◌≤◌, ℕ, List, IfOk, IfSome};
 ghost use Rattle.std.specs.Io.KnownBytes.{Appends, Consumes};
-ghost use Rattle.bayou_handshake.specs.Ends.{IsKnownServer, proof_of_client};
+ghost use Rattle.bayou_handshake.specs.Ends.{IsKnownServer, IsMetServer, proof_of_client};
 ghost use Rattle.bayou_wire.specs.declared.greeting.Greeting.TheVariants.{Known as KnownFrame, Welcome as WelcomeFrame};
 ghost use Rattle.bayou_wire.specs.Greetings.{SpellsGreeting};
 
@@ -12,7 +12,7 @@ use bayou_frames::ChannelFault;
 use bayou_greeting::{Nonces, StoreKey, Stranger, client_proof, greet};
 use bayou_streams::CountedChannel;
 use bayou_wire::layout::PROOF_BYTES;
-use bayou_wire::{Greeting, Held, Hello, Known, Proof, Proving, Welcome};
+use bayou_wire::{Greeting, Held, Hello, Known, Proof, Proving, ServerCount, Welcome};
 use std::alloc::Global;
 use std::io::{Read, Write};
 
@@ -95,17 +95,25 @@ fn read_known<R: Read, W>(channel: &mut CountedChannel<R, W>) -> Result<Known, G
     }
 }
 
-/// Greets a server, with what it holds where it is a server itself, and learns what the other holds: once that is known to be the one that was greeted,
-/// and of the same store.
-pub fn greet_server<R: Read, W: Write>(
+/// What a server is known by that was greeted.
+#[derive(Debug, Drop, PartialEq, Eq)]
+pub struct Met {
+    /// How many servers its store has.
+    pub servers: ServerCount,
+    pub known: Known,
+}
+
+/// Greets a server, with what it holds where it is a server itself, and learns what the other holds, and how many servers its store has: once that is known
+/// to be the one that was greeted, and of the same store.
+pub fn meet_server<R: Read, W: Write>(
     alloc: Global,
     hello: &Hello,
     key: &Option<StoreKey>,
     held: Option<Held>,
     channel: &mut CountedChannel<R, W>,
-) -> Result<Known, GreetingFault>
-    ensures known { IfOk result (λ known. (read written : List ℕ) × Consumes (R.remaining channel.old.reader) (R.remaining channel.new.reader) read
-        × Appends (W.contents channel.old.writer) (W.contents channel.new.writer) written × IsKnownServer hello.now key.now held read written known) }
+) -> Result<Met, GreetingFault>
+    ensures met { IfOk result (λ met. (read written : List ℕ) × Consumes (R.remaining channel.old.reader) (R.remaining channel.new.reader) read
+        × Appends (W.contents channel.old.writer) (W.contents channel.new.writer) written × IsMetServer hello.now key.now held read written met) }
     ensures turns { channel.new.turns_left ≤ channel.old.turns_left }
 {
     send_greeting(alloc, channel, &Greeting::Hello(*hello))?;
@@ -120,5 +128,26 @@ pub fn greet_server<R: Read, W: Write>(
     };
     let proof = proof_of(key, &nonces);
     send_greeting(alloc, channel, &Greeting::Proof(Proving { proof, held }))?;
-    read_known(channel)
+    let known = read_known(channel)?;
+    Ok(Met {
+        servers: welcome.servers,
+        known,
+    })
+}
+
+/// Greets a server, with what it holds where it is a server itself, and learns what the other holds: once that is known to be the one that was greeted,
+/// and of the same store.
+pub fn greet_server<R: Read, W: Write>(
+    alloc: Global,
+    hello: &Hello,
+    key: &Option<StoreKey>,
+    held: Option<Held>,
+    channel: &mut CountedChannel<R, W>,
+) -> Result<Known, GreetingFault>
+    ensures known { IfOk result (λ known. (read written : List ℕ) × Consumes (R.remaining channel.old.reader) (R.remaining channel.new.reader) read
+        × Appends (W.contents channel.old.writer) (W.contents channel.new.writer) written × IsKnownServer hello.now key.now held read written known) }
+    ensures turns { channel.new.turns_left ≤ channel.old.turns_left }
+{
+    let met = meet_server(alloc, hello, key, held, channel)?;
+    Ok(met.known)
 }

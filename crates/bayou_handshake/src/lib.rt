@@ -14,7 +14,7 @@ pub mod reading;
 mod sending;
 pub mod server_end;
 
-pub use client_end::{GreetingFault, OLDER_AFTER, greet_server};
+pub use client_end::{GreetingFault, Met, OLDER_AFTER, greet_server, meet_server};
 pub use reading::{MAX_GREETING_BYTES, read_greeting, read_text};
 pub use server_end::{Guest, NotReceived, StoreServer, make_known, receive};
 

@@ -5,6 +5,7 @@ pub mod Faults
 pub mod Laws
 pub mod Living
 pub mod Printed
+pub mod Standing
 pub mod Telling
 pub mod Turns
 pub mod Verdicts

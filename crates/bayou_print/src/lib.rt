@@ -18,6 +18,7 @@ pub mod fault;
 pub mod living;
 pub mod printed;
 pub mod printer;
+pub mod standing;
 pub mod telling;
 pub mod verdict;
 pub mod waiting;
@@ -31,8 +32,9 @@ pub use connected::{
 pub use ended::Ended;
 pub use fault::RunFault;
 pub use living::{held_line, serving_line};
-pub use printed::{last_line, pulling_word, settled_line};
+pub use printed::{Counts, last_line, pulling_word, settled_line};
 pub use printer::{Listing, Printer, Survey};
+pub use standing::{forgotten_line, key_standing_line, standing_line, standing_row_line};
 pub use telling::{write_answer, write_book, write_each};
 pub use verdict::verdict_line;
 pub use waiting::Waiting;

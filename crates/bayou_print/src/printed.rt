@@ -24,10 +24,10 @@ const LINE_ROOM: usize = 128;
 
 /// The first counts of a vector, as many as there are servers.
 #[derive(Drop)]
-pub(crate) struct Counts<'a> {
-    pub(crate) vector: &'a Vector,
-    pub(crate) servers: u8,
-    ghost in_range: { servers ≤ SERVERS },
+pub struct Counts<'a> {
+    pub vector: &'a Vector,
+    pub servers: u8,
+    pub ghost in_range: { servers ≤ SERVERS },
 }
 
 impl fmt::Display for Counts<'_> {

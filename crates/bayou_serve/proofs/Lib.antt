@@ -5,5 +5,7 @@ mod Gathering
 mod Greeted
 mod Living
 mod Losing
+mod Named
+mod Taken
 mod Worded
 mod Zipped

@@ -1,5 +1,5 @@
 -- Why nothing is served, or no more: this project's own.
-use Rattle.std.specs.Prelude.{◌≡◌, ◌≢◌, Option, None, Some}
+use Rattle.std.specs.Prelude.{◌≡◌, ◌≢◌, ℕ, Option, None, Some}
 use Rattle.bayou_journal.specs.declared.careful.Damage.{Damage}
 use Rattle.bayou_serve.specs.declared.fault.ServeFault.{ServeFault}
 use Rattle.bayou_serve.specs.declared.fault.ServeFault.TheVariants.{NotOpened, Missing, Present, Device, Damaged, NotAJournal, OtherServer, BadRecord, Gap, LogFull, OwnLost, Lost, MarkFailed, OtherStore, NotALabel, NotRestored, Memory, Port, NoDescriptor, Output}
@@ -13,6 +13,8 @@ use Rattle.bayou_restore.specs.declared.fault.RestoreFault.TheVariants as restor
 use Rattle.bayou_server.specs.declared.fault.JournalFault.TheVariants as journals
 use Rattle.bayou_server.specs.declared.fault.StartFault.{StartFault}
 use Rattle.bayou_server.specs.declared.fault.StartFault.TheVariants as starts
+use Rattle.bayou_server.specs.declared.fault.TakeFault.{TakeFault}
+use Rattle.bayou_server.specs.declared.fault.TakeFault.TheVariants as takes
 
 -- each but those of memory, of the socket, of descriptors and of the output
 abbrev pub IsOfJournal : ServeFault → Type 0
@@ -36,6 +38,17 @@ unrestored_as restores.LogFull = NotRestored why.LogFull
 unrestored_as restores.Device = NotRestored why.Device
 unrestored_as restores.NotEmpty = NotRestored why.Device
 unrestored_as restores.OutOfMemory = Memory
+
+-- a Write of this peer that isn't taken is told by its own name
+abbrev pub untaken_as : (peer : ℕ) → TakeFault → ServeFault
+untaken_as peer takes.Conflict = NotRestored (why.Conflict peer)
+untaken_as peer takes.OwnLost = NotRestored (why.MoreOwn peer)
+untaken_as peer takes.Gap = NotRestored (why.Unfit peer)
+untaken_as peer takes.BadStamp = NotRestored (why.Unfit peer)
+untaken_as peer takes.LogFull = NotRestored why.LogFull
+untaken_as peer takes.Down = NotRestored why.Device
+untaken_as peer takes.Journal = NotRestored why.Device
+untaken_as peer takes.OutOfMemory = Memory
 
 -- what is wrong with a label is told by its own name
 abbrev pub labelled_as : LabelFault → ServeFault

@@ -1,6 +1,6 @@
 -- What the words of a command line say of a server that lives: this project's own.
-use Rattle.std.specs.Prelude.{◌≡◌, ◌≢◌, ◌==◌, ℕ, ◌<◌, ◌≤◌, Bool, false, List, [], Contains, length, slice_index_or}
-use Rattle.std.specs.List.{after_first, before_first, position_or_len}
+use Rattle.std.specs.Prelude.{◌≡◌, ◌≢◌, ◌==◌, ℕ, ◌<◌, ◌≤◌, Bool, false, List, [], All, Contains, length, slice_index_or}
+use Rattle.std.specs.List.{AllZip, after_first, before_first, position_or_len}
 use Rattle.std.specs.Net.Addr.{IsLoopbackV4, IsLoopbackV6, MatchIp}
 use Rattle.std.specs.Net.Grammar.{IsSocketText}
 use Rattle.std.specs.Net.Socket.{socket_ip}
@@ -8,7 +8,10 @@ use Rattle.std.specs.declared.net.socket_addr.SocketAddr.{SocketAddr}
 use Rattle.std.specs.Str.Parse.{IsNumeral, digits_value, without_leading_plus}
 use Rattle.bayou_serve.specs.declared.plan.Peer.{Peer}
 use Rattle.bayou_serve.specs.declared.plan.PlanFault.{PlanFault}
-use Rattle.bayou_serve.specs.declared.plan.PlanFault.TheVariants.{NoServer, NoAddress, OpenToAnyone, NoPeer, SamePeer, TwoBeginnings, OutOfMemory}
+use Rattle.bayou_base.specs.declared.server.ServerId.{ServerId}
+use Rattle.bayou_serve.specs.declared.plan.Beginning.{Beginning}
+use Rattle.bayou_serve.specs.declared.plan.Beginning.TheVariants.{Restore}
+use Rattle.bayou_serve.specs.declared.plan.PlanFault.TheVariants.{NoServer, NoAddress, OpenToAnyone, NoPeer, SamePeer, TwoBeginnings, NoOther, NothingRestored, Unnamed, OutOfMemory}
 
 -- the sign between a server's number and its address
 abbrev pub is_equals_sign : ℕ → Bool
@@ -63,12 +66,64 @@ RefusesPeers server servers words SamePeer = SayOneTwice words
 RefusesPeers server servers words OutOfMemory = Unit {0}
 RefusesPeers server servers words _ = ⊥
 
+-- the word says the server: I
+pub record SaysServer (word : List ℕ) (server : ServerId) : Type 0 where
+  pub numeral : IsNumeral 10 (without_leading_plus word)
+  pub number : server.index ≡ digits_value 10 (without_leading_plus word)
+
+-- the server may be left out: it is another one of so many, and no peer
+pub record IsLeftOut (server servers : ℕ) (peers : List Peer) (number : ℕ) : Type 0 where
+  pub below : number < servers
+  pub other : number ≢ server
+  pub no_peer : All (λ peer. peer.id.index ≢ number) peers
+
+-- the word says none that may be
+abbrev pub SaysNoneLeftOut : (server servers : ℕ) → (peers : List Peer) → (word : List ℕ) → Type 0
+SaysNoneLeftOut server servers peers word = (left : ServerId) → SaysServer word left → ¬ (IsLeftOut server servers peers left.index)
+
+-- the server is no peer, and isn't left out
+pub record IsApart (peers : List Peer) (left_out : List ServerId) (number : ℕ) : Type 0 where
+  pub no_peer : All (λ peer. peer.id.index ≢ number) peers
+  pub kept : All (λ left. left.index ≢ number) left_out
+
+-- each other one of so many servers is a peer, or left out
+abbrev pub AreNamed : (server servers : ℕ) (peers : List Peer) (left_out : List ServerId) → Type 0
+AreNamed server servers peers left_out = (number : ℕ) → number < servers → number ≢ server → ¬ (IsApart peers left_out number)
+
+-- this one is neither
+pub record IsUnnamed (server servers : ℕ) (peers : List Peer) (left_out : List ServerId) (number : ℕ) : Type 0 where
+  pub below : number < servers
+  pub other : number ≢ server
+  pub apart : IsApart peers left_out number
+
+-- why words don't say servers that are left out: one of them says none that may be; or memory is wanting
+abbrev pub RefusesLeftOut : (server servers : ℕ) → (peers : List Peer) → (words : List (List ℕ)) → PlanFault → Type 0
+RefusesLeftOut server servers peers words NoOther = (word : List ℕ) × Contains words word × SaysNoneLeftOut server servers peers word
+RefusesLeftOut server servers peers words OutOfMemory = Unit {0}
+RefusesLeftOut server servers peers words _ = ⊥
+
+-- why a server doesn't begin so: it isn't restored, and one is left out; or it is, and one of so many is no peer, and not left out
+abbrev pub RefusesBeginning : (server servers : ℕ) → (peers : List Peer) → (left_out : List ServerId) → Beginning → PlanFault → Type 0
+RefusesBeginning server servers peers left_out beginning NothingRestored = (beginning ≢ Restore) × (left_out ≢ [])
+RefusesBeginning server servers peers left_out beginning (Unnamed number) = (beginning ≡ Restore) × IsUnnamed server servers peers left_out number
+RefusesBeginning server servers peers left_out beginning _ = ⊥
+
+-- the words say these peers, and these servers that are left out
+pub record SayOthers (peer_words left_words : List (List ℕ)) (peers : List Peer) (left_out : List ServerId) : Type 0 where
+  pub peers_said : AllZip SaysPeer peer_words peers
+  pub left_said : AllZip SaysServer left_words left_out
+
 -- Why words make no plan: the server is none of so many, or one of these.
-abbrev pub Refuses : (server servers : ℕ) → (listen : List ℕ) → (serves_anyone : Bool) → (peers : List (List ℕ)) → PlanFault → Type 0
-Refuses server servers listen serves_anyone peers NoServer = servers ≤ server
-Refuses server servers listen serves_anyone peers NoAddress = RefusesListen listen serves_anyone NoAddress
-Refuses server servers listen serves_anyone peers OpenToAnyone = RefusesListen listen serves_anyone OpenToAnyone
-Refuses server servers listen serves_anyone peers NoPeer = RefusesPeers server servers peers NoPeer
-Refuses server servers listen serves_anyone peers SamePeer = RefusesPeers server servers peers SamePeer
-Refuses server servers listen serves_anyone peers TwoBeginnings = ⊥
-Refuses server servers listen serves_anyone peers OutOfMemory = Unit {0}
+abbrev pub Refuses : (server servers : ℕ) → (listen : List ℕ) → (serves_anyone : Bool) → (peer_words left_words : List (List ℕ)) → Beginning → PlanFault → Type 0
+Refuses server servers listen serves_anyone peer_words left_words beginning NoServer = servers ≤ server
+Refuses server servers listen serves_anyone peer_words left_words beginning NoAddress = RefusesListen listen serves_anyone NoAddress
+Refuses server servers listen serves_anyone peer_words left_words beginning OpenToAnyone = RefusesListen listen serves_anyone OpenToAnyone
+Refuses server servers listen serves_anyone peer_words left_words beginning NoPeer = RefusesPeers server servers peer_words NoPeer
+Refuses server servers listen serves_anyone peer_words left_words beginning SamePeer = RefusesPeers server servers peer_words SamePeer
+Refuses server servers listen serves_anyone peer_words left_words beginning TwoBeginnings = ⊥
+Refuses server servers listen serves_anyone peer_words left_words beginning NoOther =
+    (peers : List Peer) × AllZip SaysPeer peer_words peers × RefusesLeftOut server servers peers left_words NoOther
+Refuses server servers listen serves_anyone peer_words left_words beginning NothingRestored = (beginning ≢ Restore) × (left_words ≢ [])
+Refuses server servers listen serves_anyone peer_words left_words beginning (Unnamed number) =
+    (beginning ≡ Restore) × ((peers : List Peer) × (left_out : List ServerId) × SayOthers peer_words left_words peers left_out × IsUnnamed server servers peers left_out number)
+Refuses server servers listen serves_anyone peer_words left_words beginning OutOfMemory = Unit {0}

@@ -1,10 +1,11 @@
 ghost use Rattle.std.specs.Prelude.{◌≡◌};
-ghost use Rattle.bayou_serve.specs.Faults.{told_as};
+ghost use Rattle.bayou_serve.specs.Faults.{told_as, untaken_as};
 
+use bayou_base::ServerId;
 use bayou_journal::Damage;
 use bayou_key_file::{LabelFault, StoreName};
 use bayou_restore::RestoreFault;
-use bayou_server::{JournalFault, StartFault};
+use bayou_server::{JournalFault, StartFault, TakeFault};
 use std::alloc::AllocError;
 use thiserror::Error;
 
@@ -13,8 +14,11 @@ use thiserror::Error;
 pub enum Unrestored {
     #[error("no peer was reached")]
     NoPeer,
-    /// The answer of this server ended early, or can't be one.
-    #[error("server {0} didn't answer whole")]
+    /// This server wasn't reached.
+    #[error("server {0} is away: bring it up, or put --without {0} in the place of its --peer")]
+    Away(u8),
+    /// The answer of this server ended early, or can't be one, or another server answered.
+    #[error("server {0} didn't answer whole: mend it, or put --without {0} in the place of its --peer")]
     BadAnswer(u8),
     /// Under this number these two servers have other Writes of this one: it gave the name twice.
     #[error("servers {one} and {other} have different Writes {number} of this server")]
@@ -22,6 +26,15 @@ pub enum Unrestored {
     /// The own Write of this number can't have been made behind those that it counts.
     #[error("the peers' Write {0} of this server can't be its own")]
     Misfit(u32),
+    /// This server has another Write under the name of one that another server has.
+    #[error("server {0} has another Write under a name that one before it has")]
+    Conflict(u8),
+    /// This server has more Writes of the one that is restored than all had before, and nobody else can make any.
+    #[error("server {0} has Writes of this server that weren't there before")]
+    MoreOwn(u8),
+    /// This server has a Write that may not follow those that are taken.
+    #[error("server {0} has a Write that fits nowhere")]
+    Unfit(u8),
     #[error("it would have more Writes than --limit")]
     LogFull,
     /// The file that is to be the journal can't be opened or locked.
@@ -147,6 +160,21 @@ impl From<RestoreFault> for ServeFault {
             RestoreFault::OutOfMemory => ServeFault::Memory,
         }
     }
+}
+
+/// What a Write of this peer is told as that a server which is restored doesn't take.
+pub(crate) fn untaken(peer: ServerId, fault: TakeFault) -> ServeFault
+    ensures { result ≡ untaken_as peer.index fault }
+{
+    let why = match fault {
+        TakeFault::Conflict => Unrestored::Conflict(peer.index),
+        TakeFault::OwnLost => Unrestored::MoreOwn(peer.index),
+        TakeFault::Gap | TakeFault::BadStamp => Unrestored::Unfit(peer.index),
+        TakeFault::LogFull => Unrestored::LogFull,
+        TakeFault::Down | TakeFault::Journal => Unrestored::Device,
+        TakeFault::OutOfMemory => return ServeFault::Memory,
+    };
+    ServeFault::NotRestored(why)
 }
 
 /// What a start that was refused is told as. A device that refused a cut tells the damage.

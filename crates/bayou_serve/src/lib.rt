@@ -13,6 +13,7 @@
 mod answering;
 mod compared_way;
 mod comparing;
+pub mod deferred;
 mod descriptors;
 pub mod fault;
 pub mod filling;

@@ -1,11 +1,13 @@
 //! What a server that lives is to do, as the words of its command line say it.
-ghost use Rattle.std.specs.Prelude.{◌≡◌, ◌≢◌, ◌<◌, ◌≤◌, ◌↔◌, All, AllPairs, Any, Err, IfErr, IfNone, IfOk, IfSome, IsTrue, false, length, map, true};
+ghost use Rattle.std.specs.Prelude.{◌≡◌, ◌≢◌, ◌<◌, ◌≤◌, ◌↔◌, ℕ, [], All, AllPairs, Any, Err, IfErr, IfNone, IfOk, IfSome, IsTrue, OnOk, false, length, map, true};
 ghost use Rattle.std.specs.List.{AllZip};
 ghost use Rattle.bayou_base.specs.declared.limits.TheConstants.{MAX_WRITES, SERVERS};
 ghost use Rattle.bayou_serve.specs.Beginnings.{beginning_of};
-ghost use Rattle.bayou_serve.specs.Words.{IsLoopback, Refuses, RefusesListen, RefusesPeers, SaysListen, SaysPeer};
+ghost use Rattle.bayou_base.specs.declared.server.ServerId.{ServerId as ServerNumber};
+ghost use Rattle.bayou_serve.specs.Words.{AreNamed, IsApart, IsLeftOut, IsLoopback, IsUnnamed, Refuses, RefusesBeginning, RefusesLeftOut, RefusesListen, RefusesPeers, SaysListen, SaysNoneLeftOut, SaysPeer, SaysServer};
+ghost use Rattle.bayou_serve.specs.declared.plan.Beginning.TheVariants.{Restore};
 ghost use Rattle.bayou_serve.specs.declared.plan.Peer.{Peer as Another};
-ghost use Rattle.bayou_serve.specs.declared.plan.PlanFault.TheVariants.{NoServer};
+ghost use Rattle.bayou_serve.specs.declared.plan.PlanFault.TheVariants.{NoServer, NothingRestored, Unnamed};
 
 use bayou_base::ServerId;
 use std::alloc::{AllocError, Global};
@@ -68,10 +70,14 @@ pub struct Plan {
     pub servers: u8,
     pub listen: SocketAddr,
     pub peers: Vec<Peer>,
+    /// The servers that a restoring goes on without.
+    pub left_out: Vec<ServerId>,
     pub habits: Habits,
     pub ghost among: { (id.index < servers) × (servers ≤ SERVERS) },
     pub ghost others: { All (λ peer. (peer.id.index < servers) × (peer.id ≢ id)) peers.items },
     pub ghost once: { AllPairs (λ one other. one.id ≢ other.id) peers.items },
+    /// Who is restored takes from each other server, but for those that are left out.
+    pub ghost named: { habits.beginning ≡ Restore → AreNamed id.index servers peers.items left_out.items },
 }
 
 /// Why the words of a command line make no plan.
@@ -89,6 +95,13 @@ pub enum PlanFault {
     SamePeer,
     #[error("--new and --restore are two ways to begin: give one of them")]
     TwoBeginnings,
+    #[error("--without takes I, another server's number that no --peer has")]
+    NoOther,
+    #[error("--without goes with --restore alone")]
+    NothingRestored,
+    /// A restoring takes from each server, and no word says this one.
+    #[error("--restore takes from each server: give --peer or --without for server {0}")]
+    Unnamed(u8),
     #[error("memory")]
     OutOfMemory,
 }
@@ -118,6 +131,7 @@ fn peer_of(word: &str) -> Option<Peer>
 // Whether one of the peers is that server.
 fn has_peer(peers: &[Peer], id: ServerId) -> bool
     ensures none { result ≡ false → All (λ peer. peer.id ≢ id) peers.now }
+    ensures other { result ≡ false → All (λ peer. peer.id.index ≢ id.index) peers.now }
     ensures some { result ≡ true → Any (λ peer. peer.id.index ≡ id.index) peers.now }
 {
     for peer in peers {
@@ -159,6 +173,152 @@ fn peers_of(
     Ok(peers)
 }
 
+// The server that a word says, if it says one.
+fn server_of(word: &str) -> Option<ServerId>
+    ensures said { IfSome result (SaysServer word.now) }
+    ensures none { IfNone result ((server : ServerNumber) → ¬ SaysServer word.now server) }
+{
+    ServerId::new(word.parse::<u8>().ok()?)
+}
+
+// Whether that server is one of these.
+fn is_among(servers: &[ServerId], id: ServerId) -> bool
+    ensures none { result ≡ false → All (λ server. server.index ≢ id.index) servers.now }
+    ensures some { result ≡ true → Any (λ server. server.index ≡ id.index) servers.now }
+{
+    for server in servers {
+        if *server == id {
+            return true;
+        }
+    }
+    false
+}
+
+// Whether the server may be left out: it is another one of so many, and no peer.
+fn may_be_left_out(id: ServerId, servers: u8, peers: &[Peer], server: ServerId) -> bool
+    ensures may { result ≡ true → IsLeftOut id.index servers peers.now server.index }
+    ensures other { result ≡ false → ¬ IsLeftOut id.index servers peers.now server.index }
+{
+    if server.index >= servers || server == id {
+        return false;
+    }
+    !has_peer(peers, server)
+}
+
+// The server that a word leaves out, if it says one that may be.
+fn left_out_in(id: ServerId, servers: u8, peers: &[Peer], word: &str) -> Option<ServerId>
+    ensures said { IfSome result (SaysServer word.now) }
+    ensures left { IfSome result (λ server. IsLeftOut id.index servers peers.now server.index) }
+    ensures none { IfNone result (SaysNoneLeftOut id.index servers peers.now word.now) }
+{
+    let Some(server) = server_of(word) else {
+        return None;
+    };
+    if may_be_left_out(id, servers, peers, server) {
+        Some(server)
+    } else {
+        None
+    }
+}
+
+// The servers that the words leave out: other ones, which are no peers.
+fn left_out_of(
+    alloc: Global,
+    id: ServerId,
+    servers: u8,
+    peers: &[Peer],
+    words: &[&str],
+) -> Result<Vec<ServerId>, PlanFault>
+    ensures said { IfOk result (λ left. AllZip (λ word server. SaysServer word.now server) words.now left.items) }
+    ensures others { IfOk result (λ left. All (λ server. IsLeftOut id.index servers peers.now server.index) left.items) }
+    ensures refused { IfErr result (RefusesLeftOut id.index servers peers.now (map (λ word. word.now) words.now)) }
+{
+    let mut left_out: Vec<ServerId> = Vec::new(alloc);
+    for word in words {
+        let Some(server) = left_out_in(id, servers, peers, word) else {
+            return Err(PlanFault::NoOther);
+        };
+        if left_out.push(server).is_err() {
+            return Err(PlanFault::OutOfMemory);
+        }
+    }
+    Ok(left_out)
+}
+
+// Whether the server is a peer, or left out.
+fn is_named(peers: &[Peer], left_out: &[ServerId], server: ServerId) -> bool
+    ensures named { result ≡ true → ¬ IsApart peers.now left_out.now server.index }
+    ensures apart { result ≡ false → IsApart peers.now left_out.now server.index }
+{
+    if has_peer(peers, server) {
+        return true;
+    }
+    is_among(left_out, server)
+}
+
+// The first of so many servers that is another one, no peer and not left out, if there is one.
+fn unnamed(id: ServerId, servers: u8, peers: &[Peer], left_out: &[ServerId]) -> Option<u8>
+    requires { servers ≤ SERVERS }
+    ensures none { IfNone result (AreNamed id.index servers peers.now left_out.now) }
+    ensures some { IfSome result (IsUnnamed id.index servers peers.now left_out.now) }
+{
+    for index in 0..servers {
+        let server = ServerId { index };
+        if server != id && !is_named(peers, left_out, server) {
+            return Some(index);
+        }
+    }
+    None
+}
+
+// Whether no server is left out.
+fn none_left_out(left_out: &[ServerId]) -> Result<(), PlanFault>
+    ensures none { OnOk result (left_out.now ≡ []) }
+    ensures some { IfErr result (λ fault. (fault ≡ NothingRestored) × (left_out.now ≢ [])) }
+{
+    if left_out.is_empty() {
+        Ok(())
+    } else {
+        Err(PlanFault::NothingRestored)
+    }
+}
+
+// Whether each other server is a peer, or left out.
+fn all_named(
+    id: ServerId,
+    servers: u8,
+    peers: &[Peer],
+    left_out: &[ServerId],
+) -> Result<(), PlanFault>
+    requires { servers ≤ SERVERS }
+    ensures named { OnOk result (AreNamed id.index servers peers.now left_out.now) }
+    ensures unnamed { IfErr result (λ fault. (number : ℕ) × (fault ≡ Unnamed number) × IsUnnamed id.index servers peers.now left_out.now number) }
+{
+    match unnamed(id, servers, peers, left_out) {
+        Some(number) => Err(PlanFault::Unnamed(number)),
+        None => Ok(()),
+    }
+}
+
+// Whether the words say how to begin so: who is restored takes from each other server, or leaves it out; nobody else leaves one out.
+fn fits_beginning(
+    id: ServerId,
+    servers: u8,
+    peers: &[Peer],
+    left_out: &[ServerId],
+    beginning: Beginning,
+) -> Result<(), PlanFault>
+    requires { servers ≤ SERVERS }
+    ensures named { OnOk result (beginning ≡ Restore → AreNamed id.index servers peers.now left_out.now) }
+    ensures alone { OnOk result (beginning ≢ Restore → left_out.now ≡ []) }
+    ensures refused { IfErr result (RefusesBeginning id.index servers peers.now left_out.now beginning) }
+{
+    match beginning {
+        Beginning::Restore => all_named(id, servers, peers, left_out),
+        Beginning::GoOn | Beginning::New => none_left_out(left_out),
+    }
+}
+
 // Whether nobody but its own machine reaches the address.
 fn is_loopback(address: SocketAddr) -> bool
     ensures { IsTrue result ↔ IsLoopback address }
@@ -190,14 +350,18 @@ impl Plan {
         listen: &str,
         serves_anyone: bool,
         peers: &[&str],
+        left_out: &[&str],
         habits: Habits,
     ) -> Result<Plan, PlanFault>
         requires { servers ≤ SERVERS }
         ensures same { IfOk result (λ plan. (plan.id.index ≡ id) × (plan.servers ≡ servers) × (plan.habits ≡ habits) × (length plan.peers.items ≡ length peers.now)) }
         ensures listens { IfOk result (λ plan. SaysListen listen.now serves_anyone plan.listen) }
         ensures said { IfOk result (λ plan. AllZip (λ word peer. SaysPeer word.now peer) peers.now plan.peers.items) }
+        ensures left { IfOk result (λ plan. AllZip (λ word server. SaysServer word.now server) left_out.now plan.left_out.items) }
+        ensures others { IfOk result (λ plan. All (λ server. IsLeftOut id servers plan.peers.items server.index) plan.left_out.items) }
+        ensures alone { habits.beginning ≢ Restore → IfOk result (λ plan. plan.left_out.items ≡ []) }
         ensures none { servers ≤ id → result ≡ Err NoServer }
-        ensures refused { IfErr result (Refuses id servers listen.now serves_anyone (map (λ word. word.now) peers.now)) }
+        ensures refused { IfErr result (Refuses id servers listen.now serves_anyone (map (λ word. word.now) peers.now) (map (λ word. word.now) left_out.now) habits.beginning) }
     {
         if id >= servers {
             return Err(PlanFault::NoServer);
@@ -205,11 +369,14 @@ impl Plan {
         let id = ServerId { index: id };
         let listen = listens_at(listen, serves_anyone)?;
         let peers = peers_of(alloc, id, servers, peers)?;
+        let left_out = left_out_of(alloc, id, servers, &peers, left_out)?;
+        fits_beginning(id, servers, &peers, &left_out, habits.beginning)?;
         Ok(Plan {
             id,
             servers,
             listen,
             peers,
+            left_out,
             habits,
         })
     }

@@ -1,17 +1,20 @@
-//! How the journal of a server is made again, of what a peer has.
-ghost use Rattle.std.specs.Prelude.{◌≡◌, ◌<◌, ◌≢◌, IfErr, IfOk, None, slice_index};
+//! How the journal of a server is made again, of what its peers have.
+ghost use Rattle.std.specs.Prelude.{◌≡◌, ◌<◌, ◌≢◌, IfErr, IfOk, None, OnOk, slice_index};
 ghost use Rattle.bayou_lang.specs.Writes.{count_of};
 ghost use Rattle.bayou_serve.specs.Faults.{MayEndRestoring};
-ghost use Rattle.bayou_serve.specs.Remade.{IsRemade};
-ghost use Rattle.bayou_server.specs.Server.{Core};
+ghost use Rattle.bayou_serve.specs.Remade.{AreFromEach, IsRemade, TakesAllOf};
+ghost use Rattle.bayou_server.specs.Server.{IsUp};
 
-use crate::fault::{ServeFault, Unrestored};
+use crate::deferred::Deferred;
+use crate::fault::{ServeFault, Unrestored, untaken};
 use crate::plan::{Beginning, Plan};
 use crate::starting::look_for;
+use bayou_base::ServerId;
 use bayou_device::{Device, FileDevice};
+use bayou_lang::RestingWrite;
 use bayou_restore::{Gathered, restore};
 use bayou_server::{Server, StartFault};
-use std::alloc::Global;
+use std::alloc::{AllocError, Global};
 use std::fs;
 use std::fs::{File, Files};
 use std::random::RandomSource;
@@ -19,7 +22,7 @@ use std::random::RandomSource;
 /// The device of a journal that is being made again.
 pub(crate) type Part = FileDevice<File>;
 
-/// A journal that was made again. Nothing but [`make_again`] makes one.
+/// A journal that was made again. Nothing but [`give_name`] makes one.
 #[derive(Clone, Copy, Debug)]
 pub(crate) struct Restored {
     own: u32,
@@ -32,6 +35,12 @@ impl Restored {
     {
         self.own
     }
+}
+
+/// That a server holds all that this peer handed over. Nothing but [`take_all_of`] makes one.
+#[derive(Clone, Copy, Debug)]
+pub(crate) struct Taken {
+    peer: u8,
 }
 
 // A run that nobody else has, as far as chance goes.
@@ -47,7 +56,11 @@ fn drawn_run<T: RandomSource>(rt: &T) -> Result<u32, ServeFault>
 }
 
 // The server that the plan asks for, on a device that is emptied first: a run that was killed may have left something there.
-fn start_empty<D: Device>(alloc: Global, plan: &Plan, part: D) -> Result<Server<D>, ServeFault>
+fn start_empty<D: Device>(
+    alloc: Global,
+    plan: &Plan,
+    part: D,
+) -> Result<Server<Deferred<D>>, ServeFault>
     ensures started { IfOk result (λ server. (server.core.doubt ≡ None) × (server.core.count ≡ plan.now.servers)) }
     ensures whose { IfOk result (λ server. (server.core.id ≡ plan.now.id.index) × (server.core.limit ≡ plan.now.habits.limit)) }
     ensures fault { IfErr result MayEndRestoring }
@@ -56,6 +69,7 @@ fn start_empty<D: Device>(alloc: Global, plan: &Plan, part: D) -> Result<Server<
     if part.cut(0).is_err() {
         return Err(ServeFault::NotRestored(Unrestored::Device));
     }
+    let part = Deferred::new(part);
     match Server::start(alloc, plan.id, plan.servers, plan.habits.limit, part) {
         Ok((server, _)) => Ok(server),
         Err(refused) if refused.fault == StartFault::OutOfMemory => Err(ServeFault::Memory),
@@ -63,46 +77,90 @@ fn start_empty<D: Device>(alloc: Global, plan: &Plan, part: D) -> Result<Server<
     }
 }
 
-// The server that the plan asks for, with its own Writes made again on the device, under tags of this run.
-fn made_on<D: Device>(
+// The Writes again.
+fn copies(alloc: Global, writes: &[RestingWrite]) -> Result<Vec<RestingWrite>, AllocError>
+    ensures { IfOk result (λ copies. copies.items ≡ writes.now) }
+{
+    let mut copies = Vec::new(alloc);
+    for write in writes {
+        copies.push(write.copy(alloc)?)?;
+    }
+    Ok(copies)
+}
+
+/// Has the server hold all that this peer handed over, or tells why it doesn't take one of these Writes. What it held it holds.
+pub(crate) fn take_all_of<D: Device>(
+    alloc: Global,
+    server: &mut Server<D>,
+    gathered: &Gathered,
+    peer: ServerId,
+) -> Result<Taken, ServeFault>
+    ensures taken { OnOk result (TakesAllOf server.old.core gathered.now.writes server.new.core) }
+    ensures whose { IfOk result (λ taken. taken.peer ≡ peer.index) }
+    ensures fault { IfErr result MayEndRestoring }
+{
+    let writes = copies(alloc, gathered.writes())?;
+    let Ok(number) = u32::try_from(writes.len()) else {
+        return Err(ServeFault::NotRestored(Unrestored::LogFull));
+    };
+    let told = server.take_next(alloc, &mut writes.into_iter(), number);
+    match told.refused {
+        None => Ok(Taken { peer: peer.index }),
+        Some(refused) => Err(untaken(peer, refused.fault)),
+    }
+}
+
+/// The server that the plan asks for, with its own Writes made again on the device, under tags of a run of its own, and the others that were gathered. The
+/// device is not synced yet.
+pub(crate) fn made_on<D: Device, T: RandomSource>(
+    rt: &T,
     alloc: Global,
     plan: &Plan,
     part: D,
     gathered: &Gathered,
-    run: u32,
-) -> Result<Server<D>, ServeFault>
-    requires count { gathered.now.count ≡ plan.now.servers }
-    requires run { 0 < run }
+) -> Result<Server<Deferred<D>>, ServeFault>
+    requires { gathered.now.count ≡ plan.now.servers }
     ensures made { IfOk result (λ server. IsRemade plan.now gathered.now.writes server.core) }
     ensures fault { IfErr result MayEndRestoring }
 {
+    let run = drawn_run(rt)?;
     let mut server = start_empty(alloc, plan, part)?;
     restore(alloc, &mut server, gathered, run)?;
     Ok(server)
 }
 
-/// Makes the journal again on the device, whose name is `part`, and gives it its own name once it is whole. No other process makes it meanwhile,
-/// since the device is locked. That it has its name no clause can say.
-pub(crate) fn make_again<T: Files<File = File> + RandomSource>(
+// The device of the server, which keeps the journal from now on.
+fn synced<D: Device>(server: Server<Deferred<D>>) -> Result<D, ServeFault>
+    ensures kept { IfOk result (λ device. D.kept device ≡ D.content device) }
+    ensures fault { IfErr result MayEndRestoring }
+{
+    match server.stop().device.synced() {
+        Ok(device) => Ok(device),
+        Err(_) => Err(ServeFault::NotRestored(Unrestored::Device)),
+    }
+}
+
+/// Has the server's journal, whose name is `part`, last, and then gives it its own name. No other process makes it meanwhile, since the device is locked.
+/// All that each peer has was taken before. That it has its name no clause can say.
+pub(crate) fn give_name<T: Files<File = File>>(
     rt: &T,
-    alloc: Global,
     plan: &Plan,
     path: &str,
     part: &str,
-    device: Part,
-    gathered: &Gathered,
+    server: Server<Deferred<Part>>,
+    taken: &[Taken],
 ) -> Result<Restored, ServeFault>
-    requires { gathered.now.count ≡ plan.now.servers }
-    ensures made { IfOk result (λ restored. (core : Core) × IsRemade plan.now gathered.now.writes core × (restored.own ≡ slice_index (count_of core.held) plan.now.id.index)) }
+    requires { AreFromEach plan.now.peers.items taken.now }
+    ensures own { IfOk result (λ restored. restored.own ≡ slice_index (count_of server.core.held) plan.now.id.index) }
     ensures fault { IfErr result MayEndRestoring }
 {
-    look_for(rt, path, Beginning::Restore)?;
-    let server = made_on(alloc, plan, device, gathered, drawn_run(rt)?)?;
+    let _ = taken;
+    let own = server.vector().get(plan.id);
+    let device = synced(server)?;
     look_for(rt, path, Beginning::Restore)?;
     if fs::rename(rt, part, path).is_err() {
         return Err(ServeFault::NotRestored(Unrestored::Device));
     }
-    Ok(Restored {
-        own: server.vector().get(plan.id),
-    })
+    drop(device);
+    Ok(Restored { own })
 }

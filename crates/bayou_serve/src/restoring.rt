@@ -1,14 +1,12 @@
 //! How a journal that is lost is made again of what the peers have.
-ghost use Rattle.std.specs.Prelude.{◌≡◌, IfErr, IfOk, IfSome, List, None, Ok, Result, slice_index};
-ghost use Rattle.bayou_lang.specs.Writes.{count_of};
+ghost use Rattle.std.specs.Prelude.{◌≡◌, IfErr, IfOk, IfSome, List, None, Ok, Result, length};
 ghost use Rattle.bayou_lang.specs.declared.write.Write.{Write as Made};
 ghost use Rattle.bayou_peer.specs.declared.fault.PullFault.{PullFault as PullFailure};
 ghost use Rattle.bayou_restore.specs.declared.gathering.Gathered.{Gathered as Gatherer};
 ghost use Rattle.bayou_serve.specs.declared.restoring.Gathering.TheVariants.{Answered};
 ghost use Rattle.bayou_serve.specs.Choosing.{ChoosesAnswer};
 ghost use Rattle.bayou_serve.specs.Faults.{MayEndRestoring};
-ghost use Rattle.bayou_serve.specs.Remade.{IsRemade};
-ghost use Rattle.bayou_server.specs.Server.{Core};
+ghost use Rattle.bayou_serve.specs.Remade.{AreFromEach, IsRestoring, TakesEachOf};
 
 use crate::fault::{ServeFault, Unrestored};
 use crate::greeting::{Way, stranger_line, way_to};
@@ -16,19 +14,20 @@ use crate::hall::Hall;
 use crate::lines::news_line;
 use crate::pace::Pace;
 use crate::plan::{Beginning, Peer, Plan};
-use crate::remaking::{Restored, make_again};
+use crate::remaking::{Part, Restored, Taken, give_name, made_on, take_all_of};
 use crate::starting::look_for;
 use crate::teller::Teller;
 use crate::visit::News;
 use crate::waiting::{Most, Renewing, Since, Waiting};
 use bayou_base::limits::PEER_ANSWER_MILLISECONDS;
 use bayou_base::{MAX_WRITES, ServerId, Vector};
-use bayou_device::FileDevice;
+use bayou_device::{Device, FileDevice};
 use bayou_greeting::Stranger;
 use bayou_handshake::StoreServer;
 use bayou_net::Sockets;
 use bayou_peer::{PullFault, pull_from_on};
 use bayou_restore::{Gathered, first_difference};
+use bayou_server::Server;
 use bayou_streams::{CountedChannel, Patient};
 use std::alloc::Global;
 use std::fs;
@@ -131,38 +130,65 @@ fn with_answer(best: Option<Answer>, more: Answer, id: ServerId) -> Result<Answe
     }
 }
 
-// What that peer has which has most Writes of the server, of those that are reached. Peers that are away are told. An answer that ends early
-// ends it: that peer may have had more. So do two answers with different Writes of one name of the server: nobody can say which one it gave last.
+/// Who asks, for which server, and where it is told.
+#[derive(Drop)]
+struct Asking<'a, E> {
+    plan: &'a Plan,
+    own: &'a StoreServer,
+    hall: &'a Hall,
+    teller: &'a Teller<E>,
+}
+
+// All that the peer has. One that is away, isn't that peer, or ends its answer early is told, and ends it: it may have what nobody else has.
+fn answer_of<E: Write, T: Wait + Clock + RandomSource + Sockets>(
+    rt: &T,
+    alloc: Global,
+    asking: &Asking<'_, E>,
+    peer: Peer,
+) -> Result<Gathered, ServeFault>
+    ensures count { IfOk result (λ gathered. gathered.count ≡ asking.now.plan.now.servers) }
+    ensures fault { IfErr result MayEndRestoring }
+{
+    let Asking {
+        plan,
+        own,
+        hall,
+        teller,
+    } = *asking;
+    let number = peer.id.index;
+    match gather_from(rt, alloc, plan, own, peer, hall) {
+        Gathering::Away => {
+            teller.tell_made(rt, news_line(alloc, peer, &News::Away));
+            Err(ServeFault::NotRestored(Unrestored::Away(number)))
+        }
+        Gathering::Stranger(stranger) => {
+            teller.tell_made(rt, stranger_line(alloc, peer, &stranger));
+            Err(ServeFault::NotRestored(Unrestored::BadAnswer(number)))
+        }
+        Gathering::Answered(Ok(gathered)) => Ok(gathered),
+        Gathering::Answered(Err(fault)) => {
+            teller.tell_made(rt, news_line(alloc, peer, &News::Failed(fault)));
+            Err(ServeFault::NotRestored(Unrestored::BadAnswer(number)))
+        }
+    }
+}
+
+// What that peer has which has most Writes of the server. Two answers with different Writes of one name of the server end it: nobody can say which one it
+// gave last.
 fn gather<E: Write, T: Wait + Clock + RandomSource + Sockets>(
     rt: &T,
     alloc: Global,
-    plan: &Plan,
-    own: &StoreServer,
-    teller: &Teller<E>,
+    asking: &Asking<'_, E>,
 ) -> Result<Gathered, ServeFault>
-    ensures count { IfOk result (λ gathered. gathered.count ≡ plan.now.servers) }
+    ensures count { IfOk result (λ gathered. gathered.count ≡ asking.now.plan.now.servers) }
     ensures fault { IfErr result MayEndRestoring }
 {
-    let hall = Hall::new(plan.habits.connections, plan.habits.idle_seconds);
+    let plan = asking.plan;
     let mut best: Option<Answer> = None;
     for peer in plan.peers.iter() {
-        match gather_from(rt, alloc, plan, own, *peer, &hall) {
-            Gathering::Away => teller.tell_made(rt, news_line(alloc, *peer, &News::Away)),
-            Gathering::Stranger(stranger) => {
-                teller.tell_made(rt, stranger_line(alloc, *peer, &stranger));
-                let why = Unrestored::BadAnswer(peer.id.index);
-                return Err(ServeFault::NotRestored(why));
-            }
-            Gathering::Answered(Ok(gathered)) => {
-                let peer = peer.id.index;
-                best = Some(with_answer(best, Answer { peer, gathered }, plan.id)?);
-            }
-            Gathering::Answered(Err(fault)) => {
-                teller.tell_made(rt, news_line(alloc, *peer, &News::Failed(fault)));
-                let why = Unrestored::BadAnswer(peer.id.index);
-                return Err(ServeFault::NotRestored(why));
-            }
-        }
+        let gathered = answer_of(rt, alloc, asking, *peer)?;
+        let peer = peer.id.index;
+        best = Some(with_answer(best, Answer { peer, gathered }, plan.id)?);
     }
     match best {
         Some(best) => Ok(best.gathered),
@@ -170,9 +196,78 @@ fn gather<E: Write, T: Wait + Clock + RandomSource + Sockets>(
     }
 }
 
-/// Makes the journal of this name, which is lost, again of what the peers have, and tells how many Writes of its own the server has again. It is
-/// made under another name, and is there under its own one whole or not at all. What a file has no clause can say, nor what a peer answers;
-/// which Writes are the server's again is [`restore`](bayou_restore::restore)'s.
+// Has the server hold all that each of these peers has, one after another. Each is asked again, so that no more than one answer is in memory. What the server held it
+// holds.
+fn take_from_each<D: Device, E: Write, T: Wait + Clock + RandomSource + Sockets>(
+    rt: &T,
+    alloc: Global,
+    asking: &Asking<'_, E>,
+    peers: &[Peer],
+    server: &mut Server<D>,
+) -> Result<Vec<Taken>, ServeFault>
+    ensures each { IfOk result (λ taken. AreFromEach peers.now taken.items) }
+    ensures taken { IfOk result (λ taken. (answers : List (List Made)) × (length answers ≡ length taken.items) × TakesEachOf server.old.core answers server.new.core) }
+    ensures fault { IfErr result MayEndRestoring }
+{
+    let mut taken: Vec<Taken> = Vec::new(alloc);
+    for peer in peers {
+        let gathered = answer_of(rt, alloc, asking, *peer)?;
+        let one = take_all_of(alloc, server, &gathered, peer.id)?;
+        if taken.push(one).is_err() {
+            return Err(ServeFault::Memory);
+        }
+    }
+    Ok(taken)
+}
+
+// Makes the journal on this device, whose name is `part`, of what was gathered and of all that each peer has, and gives it its name.
+fn restored_on<E, T>(
+    rt: &T,
+    alloc: Global,
+    asking: &Asking<'_, E>,
+    path: &str,
+    part: &str,
+    device: Part,
+    gathered: Gathered,
+) -> Result<Restored, ServeFault>
+where
+    E: Write,
+    T: Wait + Clock + Files<File = File> + RandomSource + Sockets,
+    requires { gathered.count ≡ asking.now.plan.now.servers }
+    ensures made { IfOk result (λ restored. IsRestoring asking.now.plan.now gathered.writes restored.own) }
+    ensures fault { IfErr result MayEndRestoring }
+{
+    look_for(rt, path, Beginning::Restore)?;
+    let mut server = made_on(rt, alloc, asking.plan, device, &gathered)?;
+    drop(gathered);
+    let taken = take_from_each(rt, alloc, asking, &asking.plan.peers, &mut server)?;
+    give_name(rt, asking.plan, path, part, server, &taken)
+}
+
+// Tells how many own Writes there are again, and without whom it was restored.
+fn tell_restored<E: Write, T: Wait>(
+    rt: &T,
+    alloc: Global,
+    plan: &Plan,
+    restored: Restored,
+    teller: &Teller<E>,
+) {
+    let own = restored.own();
+    teller.tell_made(rt, format!(in alloc; "bayou: restored {own} own writes\n"));
+    for server in plan.left_out.iter() {
+        let number = server.index;
+        teller.tell_made(
+            rt,
+            format!(in alloc;
+                "bayou: restored without server {number}: what was told as final may change\n"
+            ),
+        );
+    }
+}
+
+/// Makes the journal of this name, which is lost, again of what the peers have, and tells how many Writes of its own the server has again, and without
+/// whom. It is made under another name, and is there under its own one whole or not at all: with all that each peer had. What a file has no clause can
+/// say, nor what a peer answers; which Writes are the server's again is [`restore`](bayou_restore::restore)'s.
 pub(crate) fn restore_journal<E, T>(
     rt: &T,
     alloc: Global,
@@ -184,19 +279,25 @@ pub(crate) fn restore_journal<E, T>(
 where
     E: Write,
     T: Wait + Clock + Files<File = File> + RandomSource + Sockets,
-    ensures made { IfOk result (λ restored. (writes : List Made) × (core : Core) × IsRemade plan.now writes core × (restored.own ≡ slice_index (count_of core.held) plan.now.id.index)) }
+    ensures made { IfOk result (λ restored. (writes : List Made) × IsRestoring plan.now writes restored.own) }
     ensures fault { IfErr result MayEndRestoring }
 {
     look_for(rt, path, Beginning::Restore)?;
-    let gathered = gather(rt, alloc, plan, own, teller)?;
+    let hall = Hall::new(plan.habits.connections, plan.habits.idle_seconds);
+    let asking = Asking {
+        plan,
+        own,
+        hall: &hall,
+        teller,
+    };
+    let gathered = gather(rt, alloc, &asking)?;
     let part = format!(in alloc; "{path}.part")?;
     let Ok(device) = FileDevice::open(rt, part.as_str()) else {
         return Err(ServeFault::NotRestored(Unrestored::NotOpened));
     };
-    match make_again(rt, alloc, plan, path, part.as_str(), device, &gathered) {
+    match restored_on(rt, alloc, &asking, path, part.as_str(), device, gathered) {
         Ok(restored) => {
-            let own = restored.own();
-            teller.tell_made(rt, format!(in alloc; "bayou: restored {own} own writes\n"));
+            tell_restored(rt, alloc, plan, restored, teller);
             Ok(restored)
         }
         Err(fault) => {

@@ -9,12 +9,12 @@ use Rattle.bayou_connect.specs.Plans.{AskedBy, IsLeast, IsWrong, SaysPlace}
 use Rattle.bayou_connect.specs.declared.plan.Plan.{Plan as Places}
 use Rattle.bayou_connect.specs.declared.plan.PlanFault.{PlanFault as Wrong}
 use Rattle.bayou_serve.specs.Beginnings.{beginning_of}
-use Rattle.bayou_serve.specs.Words.{Refuses, SaysListen, SaysPeer}
+use Rattle.bayou_serve.specs.Words.{Refuses, SaysListen, SaysPeer, SaysServer}
 use Rattle.bayou_serve.specs.declared.plan.Habits.{Habits}
 use Rattle.bayou_serve.specs.declared.plan.Plan.{Plan}
 use Rattle.bayou_serve.specs.declared.plan.PlanFault.{PlanFault}
-use Rattle.bayou_serve.specs.declared.plan.PlanFault.TheVariants.{NoServer, NoAddress, OpenToAnyone, NoPeer, SamePeer, TwoBeginnings, OutOfMemory}
-use Rattle.bayou_shell.specs.Plans.{IsPlanOf, IsPlanOfPlaces, RefusesConnection, RefusesService}
+use Rattle.bayou_serve.specs.declared.plan.PlanFault.TheVariants.{NoServer, NoAddress, OpenToAnyone, NoPeer, SamePeer, TwoBeginnings, NoOther, NothingRestored, Unnamed, OutOfMemory}
+use Rattle.bayou_shell.specs.Plans.{IsPlanOf, IsPlanOfPlaces, RefusesConnection, RefusesService, RefusesWords}
 
 -- what is said of each word is said of each text
 pub zip_seen : {B : Type 0} (R : List ℕ → B → Type 0) (words : List (Bor (List ℕ))) (ys : List B) → AllZip (λ word y. R word.now y) words ys → AllZip R (map (λ word. word.now) words) ys
@@ -33,37 +33,44 @@ pub record AreHabitsOf (service : Service) (habits : Habits) : Type 0 where
   pub beginning : Some habits.beginning ≡ beginning_of service.is_new service.is_restored
 
 -- what refuses the words refuses what they ask for
-refused : (service : Service) (fault : PlanFault) → Refuses service.id service.servers service.listen service.serves_anyone service.peers fault → fault ≢ OutOfMemory → RefusesService service fault
+refused : (service : Service) (fault : PlanFault) → RefusesWords service fault → fault ≢ OutOfMemory → RefusesService service fault
 refused service NoServer is known = is
 refused service NoAddress is known = is
 refused service OpenToAnyone is known = is
 refused service NoPeer is known = is
 refused service SamePeer is known = is
-refused service TwoBeginnings is known = absurd is
+refused service TwoBeginnings is known = absurd is.2
+refused service NoOther is known = is
+refused service NothingRestored is known = is
+refused service (Unnamed number) is known = is
 refused service OutOfMemory is known = absurd (known refl)
 
-pub plan_of : (service : Service) (words : List (Bor (List ℕ))) (habits : Habits) (result kept : Result Plan PlanFault) → service.peers ≡ map (λ word. word.now) words → AreHabitsOf service habits
+pub plan_of : (service : Service) (words left_words : List (Bor (List ℕ))) (habits : Habits) (result kept : Result Plan PlanFault) → service.peers ≡ map (λ word. word.now) words
+    → service.left_out ≡ map (λ word. word.now) left_words → AreHabitsOf service habits
     → IfOk result (λ plan. (plan.id.index ≡ service.id) × (plan.servers ≡ service.servers) × (plan.habits ≡ habits) × (length plan.peers.items ≡ length words))
     → IfOk result (λ plan. SaysListen service.listen service.serves_anyone plan.listen)
     → IfOk result (λ plan. AllZip (λ word peer. SaysPeer word.now peer) words plan.peers.items)
-    → IfErr result (Refuses service.id service.servers service.listen service.serves_anyone (map (λ word. word.now) words))
+    → IfOk result (λ plan. AllZip (λ word server. SaysServer word.now server) left_words plan.left_out.items)
+    → IfErr result (Refuses service.id service.servers service.listen service.serves_anyone (map (λ word. word.now) words) (map (λ word. word.now) left_words) habits.beginning)
     → kept ≡ result → IfErr kept (λ fault. fault ≢ OutOfMemory)
     → MatchResult kept (IsPlanOf service) (RefusesService service)
-plan_of service words habits result kept named of same listens said why is known =
+plan_of service words left_words habits result kept named left_named of same listens said left why is known =
     subst (λ (r : Result Plan PlanFault). MatchResult r (IsPlanOf service) (RefusesService service)) (sym is)
-    (of_result result same listens said why (subst (λ (r : Result Plan PlanFault). IfErr r (λ fault. fault ≢ OutOfMemory)) is known))
+    (of_result result same listens said left why (subst (λ (r : Result Plan PlanFault). IfErr r (λ fault. fault ≢ OutOfMemory)) is known))
   where
     of_result : (result : Result Plan PlanFault)
         → IfOk result (λ plan. (plan.id.index ≡ service.id) × (plan.servers ≡ service.servers) × (plan.habits ≡ habits) × (length plan.peers.items ≡ length words))
         → IfOk result (λ plan. SaysListen service.listen service.serves_anyone plan.listen)
         → IfOk result (λ plan. AllZip (λ word peer. SaysPeer word.now peer) words plan.peers.items)
-        → IfErr result (Refuses service.id service.servers service.listen service.serves_anyone (map (λ word. word.now) words))
+        → IfOk result (λ plan. AllZip (λ word server. SaysServer word.now server) left_words plan.left_out.items)
+        → IfErr result (Refuses service.id service.servers service.listen service.serves_anyone (map (λ word. word.now) words) (map (λ word. word.now) left_words) habits.beginning)
         → IfErr result (λ fault. fault ≢ OutOfMemory) → MatchResult result (IsPlanOf service) (RefusesService service)
-    of_result (Ok plan) same listens said why known = record {
+    of_result (Ok plan) same listens said left why known = record {
       id = same.0;
       servers = same.1;
       listens = listens;
       peers = subst (λ (peers : List (List ℕ)). AllZip SaysPeer peers plan.peers.items) (sym named) (zip_seen SaysPeer words plan.peers.items said);
+      left_out = subst (λ (servers : List (List ℕ)). AllZip SaysServer servers plan.left_out.items) (sym left_named) (zip_seen SaysServer left_words plan.left_out.items left);
       limit = ap (λ (h : Habits). h.limit) same.2 ∙ of.limit;
       every = ap (λ (h : Habits). h.every_seconds) same.2 ∙ of.every;
       connections = ap (λ (h : Habits). h.connections) same.2 ∙ of.connections;
@@ -71,8 +78,11 @@ plan_of service words habits result kept named of same listens said why is known
       until = ap (λ (h : Habits). h.until_input_ends) same.2 ∙ of.until;
       beginning = ap (λ (h : Habits). Some h.beginning) same.2 ∙ of.beginning;
     }
-    of_result (Err fault) same listens said why known =
-        refused service fault (subst (λ (peers : List (List ℕ)). Refuses service.id service.servers service.listen service.serves_anyone peers fault) (sym named) why) known
+    of_result (Err fault) same listens said left why known =
+        let words_refused : Refuses service.id service.servers service.listen service.serves_anyone service.peers service.left_out habits.beginning fault =
+        subst (λ (peers : List (List ℕ)). Refuses service.id service.servers service.listen service.serves_anyone peers service.left_out habits.beginning fault) (sym named)
+        (subst (λ (servers : List (List ℕ)). Refuses service.id service.servers service.listen service.serves_anyone (map (λ word. word.now) words) servers habits.beginning fault) (sym left_named) why) in
+        refused service fault (habits.beginning, of.beginning, words_refused) known
 
 -- what is seen of a text that there may be
 copied : (text : Option (Bor (List ℕ))) → option_copied text ≡ option_map (λ text. text.now) text

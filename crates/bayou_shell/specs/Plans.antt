@@ -9,14 +9,15 @@ use Rattle.bayou_connect.specs.Plans.{AskedBy, IsLeast, IsWrong, SaysPlace}
 use Rattle.bayou_connect.specs.declared.plan.Plan.{Plan as Places}
 use Rattle.bayou_connect.specs.declared.plan.PlanFault.{PlanFault as Wrong}
 use Rattle.bayou_serve.specs.Beginnings.{beginning_of}
-use Rattle.bayou_serve.specs.Words.{Refuses, SaysListen, SaysPeer}
+use Rattle.bayou_serve.specs.Words.{Refuses, SaysListen, SaysPeer, SaysServer}
 use Rattle.bayou_serve.specs.declared.plan.Plan.{Plan}
 use Rattle.bayou_serve.specs.declared.plan.PlanFault.{PlanFault}
 use Rattle.bayou_shell.specs.declared.connected.Call.{Call}
 use Rattle.bayou_shell.specs.declared.keyed.NewKey.{NewKey}
 use Rattle.bayou_shell.specs.declared.served.Service.{Service as Living}
 use Rattle.bayou_socket_run.specs.Damage.{journal_name}
-use Rattle.bayou_serve.specs.declared.plan.PlanFault.TheVariants.{NoServer, NoAddress, OpenToAnyone, NoPeer, SamePeer, TwoBeginnings, OutOfMemory}
+use Rattle.bayou_serve.specs.declared.plan.PlanFault.TheVariants.{NoServer, NoAddress, OpenToAnyone, NoPeer, SamePeer, TwoBeginnings, NoOther, NothingRestored, Unnamed, OutOfMemory}
+use Rattle.bayou_serve.specs.declared.plan.Beginning.{Beginning}
 
 -- the plan is the server that the words ask for, and all that they say of it
 pub record IsPlanOf (service : Service) (plan : Plan) : Type 0 where
@@ -24,6 +25,7 @@ pub record IsPlanOf (service : Service) (plan : Plan) : Type 0 where
   pub servers : plan.servers ≡ service.servers
   pub listens : SaysListen service.listen service.serves_anyone plan.listen
   pub peers : AllZip SaysPeer service.peers plan.peers.items
+  pub left_out : AllZip SaysServer service.left_out plan.left_out.items
   pub limit : plan.habits.limit ≡ service.limit
   pub every : plan.habits.every_seconds ≡ service.every_seconds
   pub connections : plan.habits.connections ≡ service.connections
@@ -31,14 +33,23 @@ pub record IsPlanOf (service : Service) (plan : Plan) : Type 0 where
   pub until : plan.habits.until_input_ends ≡ service.until_input_ends
   pub beginning : Some plan.habits.beginning ≡ beginning_of service.is_new service.is_restored
 
+-- one of the words says what can't be done, by the way to begin that they ask for
+abbrev pub RefusesWords : Service → PlanFault → Type 0
+RefusesWords service fault =
+    (beginning : Beginning) × (Some beginning ≡ beginning_of service.is_new service.is_restored)
+    × Refuses service.id service.servers service.listen service.serves_anyone service.peers service.left_out beginning fault
+
 -- why the words make no plan: they ask for two ways to begin, or else one of them says what can't be done
 abbrev pub RefusesService : Service → PlanFault → Type 0
-RefusesService service NoServer = Refuses service.id service.servers service.listen service.serves_anyone service.peers NoServer
-RefusesService service NoAddress = Refuses service.id service.servers service.listen service.serves_anyone service.peers NoAddress
-RefusesService service OpenToAnyone = Refuses service.id service.servers service.listen service.serves_anyone service.peers OpenToAnyone
-RefusesService service NoPeer = Refuses service.id service.servers service.listen service.serves_anyone service.peers NoPeer
-RefusesService service SamePeer = Refuses service.id service.servers service.listen service.serves_anyone service.peers SamePeer
+RefusesService service NoServer = RefusesWords service NoServer
+RefusesService service NoAddress = RefusesWords service NoAddress
+RefusesService service OpenToAnyone = RefusesWords service OpenToAnyone
+RefusesService service NoPeer = RefusesWords service NoPeer
+RefusesService service SamePeer = RefusesWords service SamePeer
 RefusesService service TwoBeginnings = beginning_of service.is_new service.is_restored ≡ None
+RefusesService service NoOther = RefusesWords service NoOther
+RefusesService service NothingRestored = RefusesWords service NothingRestored
+RefusesService service (Unnamed number) = RefusesWords service (Unnamed number)
 RefusesService service OutOfMemory = ⊥
 
 -- the plan asks the servers that the words name, in their order, for what they say; it waits as long as they say, gives each server as much time, and

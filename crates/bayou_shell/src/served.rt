@@ -80,6 +80,7 @@ fn plan_in(alloc: Global, serving: &Serving<'_>) -> Result<Result<Plan, PlanFaul
         serving.listen,
         serving.serves_anyone,
         serving.peers.as_slice(),
+        serving.left_out.as_slice(),
         habits,
     );
     let plan = kept_plan(plan)?;

@@ -10,6 +10,7 @@ use Rattle.bayou_base.specs.declared.stamp.Stamp.{Stamp}
 use Rattle.bayou_base.specs.declared.wid.Wid.{Wid}
 use Rattle.bayou_base.specs.Order.{is_before}
 use Rattle.bayou_base.specs.Vector.{Covers, joined, raised}
+use Rattle.bayou_final.specs.Known.{HasOwn, IsKnown, IsKnownBeginning}
 use Rattle.bayou_lang.specs.declared.program.Program.{Program}
 use Rattle.bayou_lang.specs.declared.write.Write.{Write}
 use Rattle.bayou_lang.specs.Database.{empty}
@@ -28,7 +29,7 @@ use Rattle.bayou_server.specs.declared.fault.WriteFault.TheVariants as writing
 use Rattle.bayou_world.specs.declared.event.Event.{Event}
 use Rattle.bayou_world.specs.declared.reply.Reply.{Reply}
 use Rattle.bayou_world.specs.declared.reply.Reply.TheVariants as replies
-use Rattle.bayou_world.specs.Final.{AreViews, BeginsWith, Had, HasOwn, IsFinal, IsKnown, IsKnownBeginning, IsKnownStamp, IsView, Leads, TellsRead, TellsWrite, up_to}
+use Rattle.bayou_world.specs.Final.{AreViews, BeginsWith, Had, IsFinal, IsKnownStamp, IsView, Leads, TellsRead, TellsWrite, up_to}
 use Rattle.bayou_world.specs.Inner.Good.{AreGoodServers, IsGoodMachine, IsHome}
 use Rattle.bayou_world.specs.Inner.Told.{IsToldMachine}
 use Rattle.bayou_world.specs.Machine.{Asking, Machine, Made, ServerSets, SessionSets, writes}

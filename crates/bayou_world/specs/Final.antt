@@ -5,7 +5,7 @@ use Rattle.bayou_base.specs.declared.answer.Seen.{Seen}
 use Rattle.bayou_base.specs.declared.stamp.Stamp.{Stamp}
 use Rattle.bayou_base.specs.declared.wid.Wid.{Wid}
 use Rattle.bayou_base.specs.Order.{is_before}
-use Rattle.bayou_base.specs.Vector.{Covers}
+use Rattle.bayou_final.specs.Known.{HasOwn, IsKnown}
 use Rattle.bayou_lang.specs.declared.write.Write.{Write}
 use Rattle.bayou_lang.specs.Database.{empty}
 use Rattle.bayou_lang.specs.Writes.{count_of, in_stamp_order}
@@ -56,14 +56,6 @@ TellsWrite (Err writing.LogFull) view = ⊥
 TellsWrite (Err writing.OutOfMemory) view = ⊥
 TellsWrite (Err writing.Journal) view = ⊥
 
--- Each server is known to hold the Write of this name: every view covers it.
-abbrev pub IsKnown : (count : ℕ) → (views : ℕ → List ℕ) → Wid → Type 0
-IsKnown count views name = (place : ℕ) → place < count → Covers (views place) name.origin.index name.seq
-
--- The database has, of each server, the Writes that it had made itself by its view.
-abbrev pub HasOwn : (count : ℕ) → (views : ℕ → List ℕ) → List Write → Type 0
-HasOwn count views database = (place : ℕ) → place < count → slice_index (views place) place ≤ slice_index (count_of database) place
-
 -- The stamp is of a Write of the database that each server is known to hold.
 pub record IsKnownStamp (count : ℕ) (views : ℕ → List ℕ) (database : List Write) (stamp : Stamp) : Type 0 where
   pub write : Write
@@ -91,11 +83,3 @@ pub record BeginsWith (first database : List Write) : Type 0 where
   pub order : in_stamp_order database ≡ first ++ later
   pub outcomes : (others : List Listed) × (listing_of database ≡ listed_after first empty ++ others)
   pub left : replay database ≡ after_writes later (after_writes first empty)
-
--- In stamp order the database begins with these Writes, each server is known to hold each of them, and the next one, if there is one, isn't
--- known so: it is the longest such beginning.
-pub record IsKnownBeginning (count : ℕ) (views : ℕ → List ℕ) (database first : List Write) : Type 0 where
-  pub later : List Write
-  pub order : in_stamp_order database ≡ first ++ later
-  pub known : All (λ write. IsKnown count views write.wid) first
-  pub longest : (next : Write) (others : List Write) → later ≡ next ∷ others → ¬ IsKnown count views next.wid

@@ -11,6 +11,7 @@ ghost use Rattle.bayou_base.specs.Order.{is_before};
 ghost use Rattle.bayou_base.specs.Vector.{joined, raised};
 ghost use Rattle.bayou_judge.specs.Guarantees.{Keeps};
 ghost use Rattle.bayou_judge.specs.History.{history_of};
+ghost use Rattle.bayou_final.specs.Known.{HasOwn, IsKnown, IsKnownBeginning};
 ghost use Rattle.bayou_lang.specs.declared.program.Program.{Program};
 ghost use Rattle.bayou_lang.specs.declared.write.Write.{Write};
 ghost use Rattle.bayou_lang.specs.Writes.{count_of, lacking_of};
@@ -37,7 +38,7 @@ ghost use Rattle.bayou_world.specs.declared.event.Event.TheVariants as events_of
 ghost use Rattle.bayou_world.specs.declared.reply.Reply.{Reply};
 ghost use Rattle.bayou_world.specs.declared.reply.Reply.TheVariants as replies_of;
 ghost use Rattle.bayou_world.specs.Agreement.{IsToldOf, ItemTestsAgree, NeedsAgree, RunTelling, StandsFor};
-ghost use Rattle.bayou_world.specs.Final.{AreViews, BeginsWith, Had, HasOwn, IsFinal, IsKnown, IsKnownBeginning, IsKnownStamp, IsView, Leads, TellsRead, TellsWrite, up_to};
+ghost use Rattle.bayou_world.specs.Final.{AreViews, BeginsWith, Had, IsFinal, IsKnownStamp, IsView, Leads, TellsRead, TellsWrite, up_to};
 ghost use Rattle.bayou_world.specs.Invariant.{IsConsistent, IsImpossible, IsTakenUpTo, TestsAgree};
 ghost use Rattle.bayou_world.specs.Judged.{AreDumpsOf, AreOneHistory, IsJudgedClean, entries_of};
 ghost use Rattle.bayou_world.specs.Machine.{Answered, Asking, Machine, Made, Offered, SessionSets, writes};

@@ -90,6 +90,10 @@ pub returns-clause-serve_restore : goal.returns-clause-serve_restore
 unfolding clap_on_literals
 returns-clause-serve_restore c = record { good = refl; entered = refl }
 
+pub returns-clause-serve_without : goal.returns-clause-serve_without
+unfolding clap_on_literals
+returns-clause-serve_without c = record { good = refl; entered = refl }
+
 pub returns-clause-serve_anyone : goal.returns-clause-serve_anyone
 unfolding clap_on_literals
 returns-clause-serve_anyone c = record { good = refl; entered = refl }

@@ -15,7 +15,10 @@ returns-clause-app c =
     let third = c.in_ok-arg-3.ensures.shape c.number_option-limit.ensures.local ∙ ap₂ with_rule second c.number_option-limit.ensures.rule in
     let fourth = c.in_ok-arg-4.ensures.shape c.number_option-connections.ensures.local ∙ ap₂ with_rule third c.number_option-connections.ensures.rule in
     let fifth = c.in_ok-arg-5.ensures.shape c.number_option-idle.ensures.local ∙ ap₂ with_rule fourth c.number_option-idle.ensures.rule in
-    IfOk-weaker c.arg-6.result _ _ (λ made h. h.shape c.file_option.ensures.local ∙ ap₂ with_rule fifth c.file_option.ensures.rule) c.arg-6.ensures
+    let sixth = c.in_ok-arg-6.ensures.shape c.file_option.ensures.local ∙ ap₂ with_rule fifth c.file_option.ensures.rule in
+    let without = ap rule_of c.action-2.ensures ∙ ap (λ (rule : Rule). record rule { action = Some Append }) c.value_option-without.ensures.rule in
+    let also = ap (λ (arg : Arg). arg.global) c.action-2.ensures ∙ c.value_option-without.ensures.local in
+    IfOk-weaker c.arg-7.result _ _ (λ made h. h.shape also ∙ ap₂ with_rule sixth without) c.arg-7.ensures
 
 pub returns-clause-local : goal.returns-clause-local
 returns-clause-local c =
@@ -25,4 +28,6 @@ returns-clause-local c =
     let third = c.in_ok-arg-3.ensures.globals ∙ stays_local _ _ c.number_option-limit.ensures.local ∙ second in
     let fourth = c.in_ok-arg-4.ensures.globals ∙ stays_local _ _ c.number_option-connections.ensures.local ∙ third in
     let fifth = c.in_ok-arg-5.ensures.globals ∙ stays_local _ _ c.number_option-idle.ensures.local ∙ fourth in
-    IfOk-weaker c.arg-6.result _ _ (λ made h. h.globals ∙ stays_local _ _ c.file_option.ensures.local ∙ fifth) c.arg-6.ensures
+    let sixth = c.in_ok-arg-6.ensures.globals ∙ stays_local _ _ c.file_option.ensures.local ∙ fifth in
+    let also : c.action-2.result.global ≡ false = ap (λ (arg : Arg). arg.global) c.action-2.ensures ∙ c.value_option-without.ensures.local in
+    IfOk-weaker c.arg-7.result _ _ (λ made h. h.globals ∙ stays_local _ _ also ∙ sixth) c.arg-7.ensures

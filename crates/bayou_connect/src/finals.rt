@@ -1,0 +1,224 @@
+//! What a person is told of what is final.
+ghost use Rattle.std.specs.Prelude.{◌≡◌, ◌||◌, IfOk, OnOk, Some, true};
+ghost use Rattle.bayou_connect.specs.Finals.{is_void_for_good, told_as};
+ghost use Rattle.bayou_print.specs.Standing.{forgotten_text, standing_text};
+ghost use Rattle.bayou_streams.specs.Account.{TakesBytes, account};
+
+use crate::desk::{Desk, Made, OWN, print};
+use crate::fault::ConnectFault;
+use crate::looking::Beyond;
+use bayou_base::{Key, Wid};
+use bayou_final::Standing;
+use bayou_net::Sockets;
+use bayou_outlook::{MAX_OWN_WRITES, OwnWrite};
+use bayou_print::{forgotten_line, key_standing_line, standing_line};
+use bayou_streams::Output;
+use bayou_wire::{Became, Placed};
+use std::fs::{File, Files};
+use std::io::Write;
+use std::thread;
+use std::time::{Clock, Duration};
+
+/// How long it is rested before it is asked again whether all own Writes are final, in milliseconds.
+const REST_MILLISECONDS: u64 = 250;
+
+/// For how long it is waited for that where nothing is said, in seconds.
+pub(crate) const WAIT_SECONDS: u32 = 60;
+
+/// Which own Writes are told.
+#[derive(Clone, Copy, Debug, PartialEq, Eq)]
+pub(crate) enum Telling {
+    /// Those of which there is news.
+    News,
+    /// All.
+    All,
+}
+
+// How an own Write is told to stand, of which this is news: where all are told, one of which there is none stands as it did, and may change.
+fn standing_told(news: Option<Standing>, telling: Telling) -> Option<Standing>
+    ensures { result ≡ told_as telling news }
+{
+    match (news, telling) {
+        (None, Telling::News) => None,
+        (None, Telling::All) => Some(Standing::Tentative),
+        (Some(news), _) => Some(news),
+    }
+}
+
+impl Desk {
+    /// Keeps an own Write that was accepted, with what was told of it, where it is kept what is final. The oldest goes where there are as many as may be,
+    /// which is told.
+    pub(crate) fn keep_own<W: Write, T: Files<File = File> + Clock>(
+        &mut self,
+        rt: &T,
+        output: &mut Output<W>,
+        made: Made,
+        placed: &Option<Placed>,
+    ) -> Result<(), ConnectFault> {
+        let told = match placed {
+            Some(placed) => Some(placed.became),
+            None => None,
+        };
+        let write = OwnWrite {
+            wid: made.wid,
+            clock: made.clock,
+            told,
+        };
+        let gone = self.store.keep_own(write)?;
+        self.store.keep_views(rt)?;
+        match gone {
+            Some(gone) => {
+                self.tell_forgotten(output, gone)?;
+                Ok(())
+            }
+            None => Ok(()),
+        }
+    }
+
+    // Tells that an own Write is kept no longer, which is so.
+    fn tell_forgotten<W: Write>(
+        &mut self,
+        output: &mut Output<W>,
+        write: OwnWrite,
+    ) -> Result<bool, ConnectFault>
+        ensures printed { OnOk result (TakesBytes (account W.contents output.old) (account W.contents output.new) (forgotten_text 0 write.wid)) }
+        ensures so { IfOk result (λ is. is ≡ true) }
+        ensures same { self.new ≡ self.old }
+    {
+        let line = forgotten_line(self.alloc, OWN, write.wid)?;
+        print(output, line.as_str())?;
+        Ok(true)
+    }
+
+    // Tells how the own Write of this place stands, where there is news of it or all are told. Whether it is kept no longer.
+    fn tell_own<W: Write, T: Sockets + Clock>(
+        &mut self,
+        rt: &T,
+        output: &mut Output<W>,
+        place: usize,
+        write: OwnWrite,
+        telling: Telling,
+    ) -> Result<bool, ConnectFault> {
+        let Some(placed) = self.store.placed(rt, write.wid)? else {
+            return Ok(false);
+        };
+        if placed.clock != write.clock {
+            // Its server lost it, and gave its name to another.
+            self.store.forget_own(place);
+            return self.tell_forgotten(output, write);
+        }
+        let news = self.store.told(place, placed.became);
+        let Some(standing) = standing_told(news, telling) else {
+            return Ok(false);
+        };
+        self.print_standing(output, standing, write.wid, placed)?;
+        Ok(standing == Standing::Final)
+    }
+
+    // Prints how an own Write stands, and notes one that came to nothing for good.
+    fn print_standing<W: Write>(
+        &mut self,
+        output: &mut Output<W>,
+        standing: Standing,
+        wid: Wid,
+        placed: Placed,
+    ) -> Result<(), ConnectFault>
+        ensures printed { OnOk result (TakesBytes (account W.contents output.old) (account W.contents output.new) (standing_text 0 standing wid (Some placed))) }
+        ensures void { self.new.is_void ≡ (self.old.is_void || is_void_for_good standing placed.became) }
+        ensures same { (self.new.store ≡ self.old.store) × (self.new.is_served ≡ self.old.is_served) }
+    {
+        if standing == Standing::Final && placed.became == Became::Nothing {
+            self.is_void = true;
+        }
+        let line = standing_line(self.alloc, OWN, standing, wid, &Some(placed))?;
+        print(output, line.as_str())
+    }
+
+    // Tells how own Writes stand: all of them, or those of which there is news.
+    fn tell_each_own<W: Write, T: Sockets + Clock>(
+        &mut self,
+        rt: &T,
+        output: &mut Output<W>,
+        telling: Telling,
+    ) -> Result<(), ConnectFault> {
+        let mut place = 0;
+        for _ in 0..MAX_OWN_WRITES {
+            let Some(write) = self.store.own_at(place) else {
+                break;
+            };
+            if !self.tell_own(rt, output, place, write, telling)? {
+                place = place.saturating_add(1);
+            }
+        }
+        Ok(())
+    }
+
+    /// Asks servers what is final by now, and tells how own Writes stand; where news alone is told, and there are none, nobody is asked. What was told is
+    /// kept once it is printed.
+    pub(crate) fn tell_finals<W: Write, T: Files<File = File> + Sockets + Clock>(
+        &mut self,
+        rt: &T,
+        output: &mut Output<W>,
+        telling: Telling,
+    ) -> Result<(), ConnectFault> {
+        if telling == Telling::News && self.store.own_at(0).is_none() {
+            return Ok(());
+        }
+        self.store.look(rt)?;
+        self.tell_each_own(rt, output, telling)?;
+        self.store.keep_views(rt)
+    }
+
+    /// Waits until each own Write is final, for so many seconds at the most, and tells each as it is. It isn't what was asked for where one is left, or came to
+    /// nothing.
+    pub(crate) fn wait_for_finals<W: Write, T: Files<File = File> + Sockets + Clock>(
+        &mut self,
+        rt: &T,
+        output: &mut Output<W>,
+        seconds: u32,
+    ) -> Result<(), ConnectFault> {
+        self.is_void = false;
+        for _ in 0..u64::from(seconds) * (1_000 / REST_MILLISECONDS) {
+            self.tell_finals(rt, output, Telling::News)?;
+            if self.store.own_at(0).is_none() {
+                break;
+            }
+            thread::sleep(rt, Duration::from_millis(REST_MILLISECONDS));
+        }
+        self.tell_finals(rt, output, Telling::All)?;
+        if self.is_void || self.store.own_at(0).is_some() {
+            self.is_served = false;
+        }
+        Ok(())
+    }
+
+    /// How the value of a key stands, where it is kept what is final: it may change yet where it isn't known which keys may.
+    pub(crate) fn standing(&self, beyond: &Option<Beyond>, key: &Key) -> Option<Standing> {
+        if !self.store.keeps_finals() {
+            return None;
+        }
+        Some(match beyond {
+            Some(beyond) => beyond.standing(key),
+            None => Standing::Tentative,
+        })
+    }
+
+    /// Tells how the value of a key stands that was read last, where it is kept what is final and that read was served.
+    pub(crate) fn tell_key_standing<W: Write, T: Sockets + Clock>(
+        &mut self,
+        rt: &T,
+        output: &mut Output<W>,
+        key: &Key,
+    ) -> Result<(), ConnectFault> {
+        let Some(view) = self.store.read_last() else {
+            return Ok(());
+        };
+        let at = self.store.asked_last();
+        let beyond = self.store.beyond_at(rt, at, &view)?;
+        let Some(standing) = self.standing(&beyond, key) else {
+            return Ok(());
+        };
+        let line = key_standing_line(self.alloc, OWN, standing, key)?;
+        print(output, line.as_str())
+    }
+}

@@ -1,0 +1,4 @@
+pub mod Chosen
+pub mod Front
+pub mod Known
+pub mod Left
