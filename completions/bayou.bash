@@ -10,7 +10,7 @@ _bayou() {
             words='--id --servers --dir --listen --peer --key --every --limit --connections --idle'
             words+=' --until-input-ends --new --restore --without --anyone -h --help'
             ;;
-        connect) words='--server --servers --session --key --state --book --wait --timeout -h --help' ;;
+        connect) words='--server --servers --session --key --state --book --log --wait --timeout -h --help' ;;
         key) words='--name -h --help' ;;
         help) words='run net audit serve connect key help' ;;
         *) words='' ;;

@@ -236,6 +236,27 @@ class Tries(Standings):
         self.row("a book in a folder that isn't there", [(0, "127.0.0.1:1")], [], [], 3,
                  ["bayou: %s/none/book: it can't be opened, another process has it, or it is of other servers" % self.room],
                  ["--book", self.room + "/none/book"])
+        self.row("a log in a folder that isn't there", [(0, "127.0.0.1:1")], ["get a"], [], 3, ["bayou: %s/none/log: it can't be opened" % self.room],
+                 ["--log", self.room + "/none/log"])
+
+    def logged(self):
+        """Each line that is printed is added to the log, behind its time; what can't be added is told once, and keeps nothing from being printed."""
+        server = self.start(self.folder())
+        at, log, begun = [(0, server.address())], os.path.join(self.room, "a.log"), time.time() * 1000
+        calls = [(["put a 1", "get a"], 0, ['0 wrote 0:1 clock 1 deps 0', '0 read a num 1 at 1']), (["get b", "foo"], 2, ['0 read b none at 1']), ([], 0, [])]
+        told = []
+        for lines, status, printed in calls:
+            self.row("a call with a log", at, lines, printed, status, ["bayou: line 2: " + UNKNOWN] if status else [], ["--log", log])
+            told += with_outcomes(lines, printed)
+        with open(log) as file:
+            logged = [line.split(" ", 1) for line in file.read().splitlines()]
+        self.that("the log has each line", [line for _, line in logged], told)
+        times = [int(moment) for moment, _ in logged]
+        self.that("behind its time", times == sorted(times) and begun - 1 <= times[0] and times[-1] <= time.time() * 1000 + 1)
+        self.that("it is its owner's", os.stat(log).st_mode & 0o777, 0o600)
+        why = "bayou: /dev/full: a call of it failed: lines that were printed may be missing there"
+        self.row("a log that is full", at, ["get a", "get b"], ['0 read a num 1 at 1', '0 read b none at 1'], 3, [why], ["--log", "/dev/full"])
+        self.row("and a line that is refused", at, ["get a", "foo"], ['0 read a num 1 at 1'], 3, ["bayou: line 2: " + UNKNOWN, why], ["--log", "/dev/full"])
 
     def lines(self):
         server = self.start(self.folder())
@@ -646,6 +667,10 @@ class Tries(Standings):
         at = [(0, server.address())]
         self.row("it is asked again by the next call", at, ["again", "again", "get a"],
                  ["0 wrote 0:1 clock 1 deps 0", "0 again none", "0 read a num 1 at 1"], words=["--state", state])
+        second, words = self.start(self.folder(), 0, 2), ["--servers", "2", "--state", state + ".own"]
+        self.row("of a store with several servers, too", [(0, DropReply(second.port, 1).address)], ["put a 1"], ["0 lost"], 1, words=words)
+        came = self.call([(0, second.address())], ["again", "mine"], words, standings=True)
+        self.that("and is an own Write then", came, (0, ["0 wrote 0:1 clock 1 deps 0,0", "0 became 0:1 update", "0 tentative 0:1 update"], []))
         way = DropReply(server.port, 1)
         self.row("a Write that is lost", [(0, way.address)], ["add a 1"], ["0 lost"], 1, words=["--state", state])
         self.row("it may be asked again no more behind a read", at, ["get a", "again"],
@@ -779,6 +804,7 @@ class Tries(Standings):
             kept = int(printed[-1].rsplit(" ", 1)[1]) if printed else -1
             self.that("turn %d of seed %d: what was printed is remembered" % (turn, seed), (status, kept >= wrote), (0, True))
         status, printed, told = self.call([(0, server.address())], ["again", "get n"], ["--state", state])
+        self.that("what became of it is told", [line[:8] for line in printed if " became " in line], ["0 became"] * (" wrote " in printed[0]))
         held = bayou.Link(server.address()).dump()
         self.that("each Write acts once", printed[-1].startswith("0 read n num %d at %d" % (len(held), len(held))))
         self.stop_all()
@@ -1039,7 +1065,7 @@ class Tries(Standings):
         self.that("server %d is apart again" % to, again.serving() is not None)
 
 
-GROUPS = ["words", "lines", "values", "claims", "additions", "words_of_lines", "silent", "dripped", "unbelievable", "pages", "never_back", "in_python", "outcomes", "turns", "lost", "asks", "lists", "guarantees_alone", "kept", "grown", "killed", "finals", "one_room", "killed_waiting", "forgotten", "guarantees", "drawn", "strangers", "keyed", "calendar"]
+GROUPS = ["words", "logged", "lines", "values", "claims", "additions", "words_of_lines", "silent", "dripped", "unbelievable", "pages", "never_back", "in_python", "outcomes", "turns", "lost", "asks", "lists", "guarantees_alone", "kept", "grown", "killed", "finals", "out_of_order", "one_room", "one_room_killed", "killed_waiting", "forgotten", "guarantees", "drawn", "strangers", "keyed", "calendar"]
 
 
 def main():

@@ -203,7 +203,7 @@ class Differing:
         with Visitor(servers[other].port, one, 3, holding) as visitor:
             kind, known = visitor.told
         vector = [int.from_bytes(known[at:at + 4], "big") for at in range(0, 64, 4)]
-        digests = [known[at:at + 8] for at in range(69, len(known), 8)]
+        digests = [known[at:at + 8] for at in range(69, 69 + 8 * 16, 8)]
         same = [holding.each[origin][vector[origin]] == digests[origin] for origin in range(16) if vector[origin] <= holding.vector[origin]]
         self.that("servers hold the same", (kind, all(same)), (KNOWN, True))
         return kind == KNOWN and len(same) > 0

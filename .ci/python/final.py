@@ -193,22 +193,37 @@ class Watcher:
 
 
 class Person:
-    """Calls of `bayou connect`, one after another, with a state: what they told as final, and of which beginning that was told."""
+    """Calls of `bayou connect`, one after another, with a state and a log: what the log says that they told as final, and of which beginning that was told."""
 
     def __init__(self, program, folder, addresses, seed):
         self.program, self.state, self.addresses, self.draw = program, os.path.join(folder, "person.state"), addresses, random.Random(seed)
+        self.log, self.read = os.path.join(folder, "person.log"), 0
         # The beginnings; the values that were told as final, and the outcomes of own Writes, each with the beginning behind it; what was wrong; the calls.
         self.finals, self.values, self.own, self.wrong, self.calls, self.tentative = [], [], {}, [], 0, 0
 
     def call(self, line):
         first = self.draw.randrange(len(self.addresses))
-        words = [self.program, "connect", "--state", self.state]
+        words = [self.program, "connect", "--state", self.state, "--log", self.log]
         for index in range(len(self.addresses)):
             server = (first + index) % len(self.addresses)
             words += ["--server", "%d=%s" % (server, self.addresses[server])]
         done = subprocess.run(words, input=(line + "\n").encode(), stdout=subprocess.PIPE, stderr=subprocess.PIPE, timeout=SECONDS)
         self.calls += 1
-        return done.stdout.decode().splitlines()
+        logged = self.logged()
+        if logged != done.stdout.decode().splitlines():
+            self.wrong.append("the log has %r of %r" % (logged, done.stdout))
+        return logged
+
+    def logged(self):
+        """What the log has more than before, each line without its time, which is behind the one before it."""
+        with open(self.log) as file:
+            file.seek(self.read)
+            lines = [line.split(" ", 1) for line in file.read().splitlines()]
+            self.read = file.tell()
+        times = [int(time) for time, _ in lines]
+        if times != sorted(times) or any(abs(time.time() * 1000 - told) > 1000 * SECONDS for told in times):
+            self.wrong.append("the log has the times %r" % times)
+        return [line for _, line in lines]
 
     def final(self):
         """What is final by the file that is kept."""
@@ -344,6 +359,8 @@ class Tries:
             calls.start()
             watcher.go_on(over)
             calls.join(SECONDS)
+            # (servers start again more slowly at a busy machine)
+            soon(lambda: load.kills >= self.seconds // 5 and load.restored > 0)
             final, told = sum(watcher.finals[-1]), len(watcher.final_told())
             load.end()
             print("final: %d Writes of writers, %d of the watcher's, %d kills, %d cuts, %d dumps; under load %d Writes became final in %d looks that told so, and %d of the "

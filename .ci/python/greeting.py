@@ -15,7 +15,7 @@ from meeting import HELLO, KNOWN, PROOF, WELCOME, free_port, soon
 sys.path.insert(0, os.path.join("..", "clients", "python"))
 import bayou  # noqa: E402
 
-VERSION = 1
+VERSION = 2
 NONCE = bytes(range(16))
 NO_PROOF = bytes(32)
 ANYBODY = 255
@@ -183,7 +183,7 @@ class Greeting:
     def welcomes(self, server):
         welcome, known = greeted(server.port, hello(0, count=3), proof())
         self.that("a Welcome", (welcome[0], welcome[1][:4], len(welcome[1]), welcome[1][-32:]), (WELCOME, bytes([VERSION, 0, 3, 0]), 4 + 16 + 32, NO_PROOF))
-        self.that("and what is held", known, (KNOWN, frames.vector_bytes(frames.counts(1)) + (65536).to_bytes(4, "big") + b"\0"))
+        self.that("and what is held", known, (KNOWN, frames.vector_bytes(frames.counts(1)) + (65536).to_bytes(4, "big") + b"\0\xff"))
         other, _ = greeted(server.port, hello(1, count=4), proof())
         self.that("a Welcome to who asked for another", other[1][:4], bytes([VERSION, 0, 3, 0]))
         self.that("each Welcome has a number of its own", welcome[1][4:20] != other[1][4:20])

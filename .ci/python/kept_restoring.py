@@ -4,6 +4,7 @@ import os
 import random
 import shutil
 import socket
+import subprocess
 import sys
 import tempfile
 import time
@@ -20,6 +21,7 @@ NOT_RESTORED = "bayou: %s: not restored: %s"
 NOT_WHOLE = "server %d didn't answer whole: mend it, or put --without %d in the place of its --peer"
 AWAY = "server %d is away: bring it up, or put --without %d in the place of its --peer"
 MAY_CHANGE = "bayou: restored without server %d: what was told as final may change"
+LEFT_OUT = ", restored without server %d: what was final may have changed"
 NO_SOCKET = "bayou: no socket can be listened at there"
 DIFFER = "servers %d and %d have different Writes %d of this server"
 
@@ -44,7 +46,7 @@ def of(origin, count):
 
 
 class Turns(Fake):
-    """A peer that answers each of what it is asked by another one of these lists of Writes, and then closes each connection at once."""
+    """A peer that answers each of what it is asked by another one of these lists of Writes, and is away then."""
 
     def __init__(self, answers):
         self.answers = answers
@@ -54,6 +56,8 @@ class Turns(Fake):
         writes = self.answers[-self.asks]
         self.answer = items(writes) + ended(len(writes))
         super().answer_one(stream)
+        if self.asks == 0:
+            self.listener.close()
 
 
 # What peers have, in their order, and which two of them differ, and where; or how many own Writes are restored.
@@ -256,9 +260,49 @@ class Tries:
                 status, _ = server.ended()
             loud = [line for line in server.told.all() if "without" in line]
             self.that("and told so once, without %s" % (left_out,), (status, loud), (0, [MAY_CHANGE % index for index in left_out]))
+        self.marked()
         folder, path = self.folder()
         server = Server(self.program, folder, 0, 3, words=["--restore", "--without", "1", "--without", "2"])
         self.that("without all others", (server.ended(), server.told.all()), ((3, []), [NOT_RESTORED % (path, "no peer was reached")]))
+
+    def marked(self):
+        """Who asks servers what they hold is told of the one that was restored without another, over restarts, until its journal is another one."""
+        folder, path = self.folder()
+        mark = path + ".without"
+
+        def told(words, peers=()):
+            server = Server(self.program, folder, 0, 3, peers=list(peers), words=words)
+            if server.serving() is None:
+                return server.ended()[0], server.told.all()
+            call = [self.program, "connect", "--servers", "3", "--server", "0=" + server.address()]
+            printed = subprocess.run(call, input="servers\n", capture_output=True, text=True, timeout=30).stdout
+            server.end()
+            return printed
+
+        held = "server 0 at %s holds %d of 65536%s\n"
+        with Turns([own(1, 2)] * 2) as fake:
+            self.that("as it is restored", told(["--restore", "--without", "2"], [(1, fake.port)]), held % ("2,0,0", 2, LEFT_OUT % 2))
+        self.that("after a restart", told([]), held % ("2,0,0", 2, LEFT_OUT % 2))
+        for name, bytes_there in (("empty", b""), ("of no server", b"\x10"), ("longer", b"\2\2")):
+            with open(mark, "wb") as file:
+                file.write(bytes_there)
+            fault = "bayou: %s: its .without can't be read, or names no server" % path
+            self.that("a start with a mark that is " + name, told([]), (3, [fault]))
+        os.remove(path)
+        with Turns([own(1)] * 2) as one, Turns([[]] * 2) as other:
+            self.that("restored with all others", told(["--restore"], [(1, one.port), (2, other.port)]), held % ("1,0,0", 1, ""))
+        self.that("its mark is gone", os.path.exists(mark), False)
+        os.remove(path)
+        with open(mark, "wb") as file:
+            file.write(b"\1")
+        self.that("a new journal has no mark", told(["--new"]), held % ("0,0,0", 0, ""))
+        os.remove(path)
+        os.mkdir(mark)
+        with Turns([own(1)] * 2) as fake:
+            why = NOT_RESTORED % (path, "its .without can't be written, or another process has it")
+            status, lines = told(["--restore", "--without", "2"], [(1, fake.port)])
+            self.that("where it can't be kept nothing is restored", (status, lines[-1:]), (3, [why]))
+        self.that("and nothing is left", os.listdir(folder), [os.path.basename(mark)])
 
     def told(self):
         """A server has told what it pulled, and none of its own Writes counts that: once it is restored it holds no less than it told, so that nothing comes

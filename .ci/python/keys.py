@@ -145,10 +145,10 @@ class Keys:
             connection.sendall(hello(0))
             kind, welcome = reply(connection)
             theirs = welcome[8:24]
-            self.that("a Welcome with a name", (kind, welcome[:8], len(welcome)), (WELCOME, bytes([1, 0, 1, 4]) + b"room", 4 + 4 + 16 + 32))
+            self.that("a Welcome with a name", (kind, welcome[:8], len(welcome)), (WELCOME, bytes([2, 0, 1, 4]) + b"room", 4 + 4 + 16 + 32))
             self.that("proves the key", welcome[24:], proved(key.secret, b"server", NONCE, theirs, bytes([0, 1])))
             connection.sendall(proof(proved(key.secret, b"client", theirs, NONCE)) + frames.read_request(frames.counts(1), "a"))
-            self.that("who proves it is told what is held", reply(connection), (KNOWN, frames.vector_bytes(frames.counts(1)) + (65536).to_bytes(4, "big") + b"\0"))
+            self.that("who proves it is told what is held", reply(connection), (KNOWN, frames.vector_bytes(frames.counts(1)) + (65536).to_bytes(4, "big") + b"\0\xff"))
             self.that("and is served", reply(connection)[0], 0x11)
 
     def turned_away(self, server, key):
@@ -283,13 +283,13 @@ class Keys:
         """What answers as a peer and isn't one of the store."""
         key = bayou.Key(path)
         theirs = bytes(16)
-        named = bytes([1, 1, 2, 4]) + b"room" + theirs
+        named = bytes([2, 1, 2, 4]) + b"room" + theirs
         for name, answer, told in (
             ("an older peer", b"", "is older: no greeting"),
-            ("a peer of an open store", frames.frame(WELCOME, bytes([1, 1, 2, 0]) + theirs + NO_PROOF), "is of another store, an open one"),
+            ("a peer of an open store", frames.frame(WELCOME, bytes([2, 1, 2, 0]) + theirs + NO_PROOF), "is of another store, an open one"),
             ("a peer that proves nothing", frames.frame(WELCOME, named + NO_PROOF), r"is of another store \(room\)"),
             ("a peer that proves another greeting", frames.frame(WELCOME, named + proved(key.secret, b"server", NONCE, theirs, bytes([1, 2]))), r"is of another store \(room\)"),
-            ("a peer that answers wrongly", frames.frame(KNOWN, frames.vector_bytes(frames.ZERO) + bytes(4) + b"\0"), "away"),
+            ("a peer that answers wrongly", frames.frame(KNOWN, frames.vector_bytes(frames.ZERO) + bytes(4) + b"\0\xff"), "away"),
         ):
             fake = Answering(answer)
             server = self.keyed(self.folder(), path, 0, 2, peers=[(1, fake.port)])

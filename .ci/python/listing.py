@@ -18,7 +18,7 @@ def with_outcomes(lines, printed):
     for at, line in enumerate(printed):
         told.append(line)
         wrote = re.match("0 wrote ([0-9]+:[0-9]+) ", line)
-        if wrote and not (at + 1 < len(printed) and printed[at + 1].startswith("0 became ")) and "again" not in lines:
+        if wrote and not (at + 1 < len(printed) and printed[at + 1].startswith("0 became ")):
             told.append("0 became %s update" % wrote.group(1))
     return told
 

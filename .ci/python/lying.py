@@ -93,7 +93,7 @@ class Liar:
             connection.sendall(frames.frame(WELCOME, bytes([VERSION, self.own, self.count, 0]) + bytes(16) + NO_PROOF))
         elif kind == PROOF:
             held = self.holding.held()
-            connection.sendall(frames.frame(KNOWN, held[:64] + frames.MAX_COUNT.to_bytes(4, "big") + b"\1" + held[64:]))
+            connection.sendall(frames.frame(KNOWN, held[:64] + frames.MAX_COUNT.to_bytes(4, "big") + b"\1" + held[64:] + b"\xff"))
         elif kind == DIGESTS:
             connection.sendall(self.holding.digested(payload))
         else:

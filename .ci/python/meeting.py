@@ -39,11 +39,11 @@ def reply_to_greeting(text, limit=frames.MAX_COUNT):
     """What a server of an open store that holds nothing replies to this, be it whichever is asked for, of as many as are counted."""
     if text[2] == HELLO:
         asked, count = text[4], text[6]
-        welcome = bytes([1, asked if asked < frames.SERVERS else 0, count or 1, 0]) + bytes(16) + bytes(32)
+        welcome = bytes([2, asked if asked < frames.SERVERS else 0, count or 1, 0]) + bytes(16) + bytes(32)
         return frames.frame(WELCOME, welcome)
     # (a peer that tells digests is told those of no Writes)
     digests = b"\1" + bytes(8 * frames.SERVERS) if text[35:36] == b"\1" else b"\0"
-    return frames.frame(KNOWN, frames.vector_bytes(frames.ZERO) + limit.to_bytes(4, "big") + digests)
+    return frames.frame(KNOWN, frames.vector_bytes(frames.ZERO) + limit.to_bytes(4, "big") + digests + b"\xff")
 
 
 class Fake:

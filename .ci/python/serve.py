@@ -22,6 +22,7 @@ from keys import Keys
 from living import SECONDS, Server, slowness
 from lookups import Lookups
 from meeting import Fake, count_of, dump_of, ended, free_port, items, soon, struct_of
+from places import Places
 
 sys.path.insert(0, os.path.join("..", "clients", "python"))
 import bayou  # noqa: E402
@@ -33,7 +34,7 @@ def numbered(number):
     return {"update": [["put", "k%03d" % (number % 500), number]]}
 
 
-class Tries(Holding, Greeting, Keys, Differing, Lookups):
+class Tries(Holding, Greeting, Keys, Differing, Lookups, Places):
     def __init__(self, program, kills, room):
         self.program, self.kills, self.room, self.checks = program, kills, room, Checks()
 
@@ -620,7 +621,7 @@ def asked_again(session, stop):
     return None
 
 
-GROUPS = ["words", "guards", "clients", "repeats", "patience", "strangers", "short_connections", "crowds", "peers", "hanging", "restores", "full_disk", "dumps", "together", "bad_peers_at_start", "offers_while_starting", "descriptors", "strays", "greetings", "mistaken_peers", "one_more_server", "older_peers", "older_clients", "lookups", "lookups_with_a_key", "old_copies", "one_number", "liars", "alike", "keys", "let_in", "labels", "keyed_peers", "late", "written_to_steadily", "fair", "killed"]
+GROUPS = ["words", "guards", "clients", "repeats", "patience", "strangers", "short_connections", "crowds", "the_longest_silent_goes", "half_a_request_is_awaited", "who_reads_stays", "all_who_say_nothing_go", "the_rest_is_dropped", "untold_once", "peers", "hanging", "restores", "full_disk", "dumps", "together", "bad_peers_at_start", "offers_while_starting", "descriptors", "strays", "greetings", "mistaken_peers", "one_more_server", "older_peers", "older_clients", "lookups", "lookups_with_a_key", "old_copies", "one_number", "liars", "alike", "keys", "let_in", "labels", "keyed_peers", "late", "written_to_steadily", "fair", "killed"]
 
 
 def main():

@@ -7,8 +7,10 @@ import subprocess
 import threading
 import time
 
+import frames
 from living import SECONDS
 from meeting import free_port
+from sending import Sender
 from ways import AtRandom
 
 import bayou
@@ -103,6 +105,22 @@ class Standings:
             self.that("and writes", [(change.is_final, change.outcome.became) for change in session.changed()][:1], [(False, "update")])
         self.told("`connect` goes on with python's", store.at, ["wait 20"], ["0 final %d:%d update" % (accepted.origin, accepted.seq)], words=words)
 
+    def out_of_order(self):
+        """A server that takes Writes while it sends others sends those behind, that belong before: what it sends then makes nothing final."""
+        def write(origin, seq, clock, deps):
+            return origin, seq, clock, frames.counts(*deps), ([], [("put", "k", ("lit", seq))], [])
+        first, other, second = write(0, 1, 1, ()), write(1, 1, 1, ()), write(0, 2, 2, (1,))
+        for name, writes, final in [("in order", [first, other, second], "final 1,0,0\n"), ("out of order", [first, second, other], "final 0,0,0\n")]:
+            both = [Sender(own, 3, frames.counts(2, 1), writes) for own in range(2)]
+            senders = both + [Sender(2, 3, frames.counts(2), [first, second])]
+            state = os.path.join(self.room, "sent " + name)
+            self.told(name, [(sender.own, sender.address) for sender in senders], ["mine"], [], words=["--state", state])
+            with open(state + ".views") as file:
+                self.that("what is final of Writes sent " + name, file.readlines()[1], final)
+            self.that("they were sent " + name, any(sender.offers for sender in both))
+            for sender in senders:
+                sender.close()
+
     def one_room(self):
         """Two persons, one room, at servers that are apart: both have it at first, and once the servers have met each is told once that it is final, one of them
         as something else than at first."""
@@ -131,6 +149,44 @@ class Standings:
         self.that("ann", told["ann"][1:], ["0 final 0:1 update"])
         self.that("ben", [line for line in told["ben"][1:] if "changed" not in line], ["0 final 1:1 merge 1"])
         self.that("a change is told once at the most", told["ben"].count("0 changed 1:1 merge 1") <= 1)
+        store.end()
+
+    def one_room_killed(self):
+        """The same over calls that are killed at any moment: each is told, and once more only behind a call that was killed as it told it."""
+        store = Apart(self)
+        store.turn(1)
+        chance, told, kills = random.Random(8585), {"ann": [], "ben": []}, 0
+
+        def person(who, line, seconds):
+            """What a call tells of what is final, and whether it was killed."""
+            at = store.at if who == "ann" else store.at[1:] + store.at[:1]
+            call = [self.program, "connect"] + [word for index, address in at for word in ("--server", "%d=%s" % (index, address))]
+            process = subprocess.Popen(call + ["--state", os.path.join(self.room, "one_room_killed." + who)], stdin=subprocess.PIPE, stdout=subprocess.PIPE)
+            killer = threading.Timer(seconds, lambda: process.send_signal(signal.SIGKILL))
+            killer.start()
+            printed = process.communicate(line.encode())[0].decode().splitlines()
+            killer.cancel()
+            is_killed = process.returncode < 0
+            told[who] += [(line, is_killed) for line in printed if re.match(r"0 (tentative|changed|final) [0-9]", line)]
+            return printed, is_killed
+        for who in told:
+            self.that("%s has the room" % who, person(who, "claim red blue %s\n" % who, SECONDS)[0][1], "0 became %d:1 update" % (who == "ben"))
+        store.turn(0)
+        for turn in range(4 * KILLS):
+            for who in told:
+                kills += person(who, "mine\nmine\nmine\n", chance.uniform(0.002, 0.06))[1]
+            time.sleep(0.05)
+        for who, line in (("ann", "0 final 0:1 update"), ("ben", "0 final 1:1 merge 1")):
+            end = time.monotonic() + SOON
+            while line not in [one for one, _ in told[who]] and time.monotonic() < end:
+                person(who, "mine\n", SECONDS)
+            person(who, "mine\n", SECONDS)
+            for word in (" final ", " changed "):
+                tellings = [(one, is_killed) for one, is_killed in told[who] if word in one]
+                self.that("%s is told%swhat is so" % (who, word), {one for one, _ in tellings} <= {line, line.replace("final", "changed")})
+                self.that("%s is told%sagain only behind a kill" % (who, word), [is_killed for _, is_killed in tellings[:-1]], [True] * (len(tellings) - 1))
+            self.that("%s is told what is final" % who, line in [one for one, _ in told[who]])
+        self.that("calls were killed: %d" % kills, kills > KILLS)
         store.end()
 
     def killed_waiting(self):

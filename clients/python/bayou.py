@@ -42,7 +42,7 @@ _SEEN, _ACCEPTED, _REFUSED, _REOPENED, _ITEM, _END = 0x11, 0x12, 0x13, 0x14, 0x1
 _HELLO, _PROOF, _WELCOME, _KNOWN = 0x20, 0x21, 0x30, 0x31
 _LIST, _BECAME, _OUTCOME, _LISTED = 0x22, 0x23, 0x33, 0x35
 # The version of greetings that is spoken; what a Hello says where any server is asked, or a client asks; how many bytes a nonce and a proof have.
-_VERSION, _ANY, _NONCE, _PROVED = 1, 255, 16, 32
+_VERSION, _ANY, _NONCE, _PROVED = 2, 255, 16, 32
 _KEY_BYTES = frozenset(b"abcdefghijklmnopqrstuvwxyz0123456789._-/")
 _ZERO = (0,) * SERVERS
 _MAX_COUNT = 65_536
@@ -438,9 +438,9 @@ class _Payload:
         return version, server, count, name, nonce, proof
 
     def known(self):
-        vector, limit, more = self.vector(), self.count(), self.take(">B")[0]
-        _none_unless(more == 0)
-        return vector, limit
+        vector, limit, (more, without) = self.vector(), self.count(), self.take(">BB")
+        _none_unless(more == 0 and (without == _ANY or without < SERVERS))
+        return vector, limit, None if without == _ANY else without
 
     def item(self):
         self.at = len(self.data)

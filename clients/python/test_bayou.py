@@ -115,7 +115,7 @@ class Refusals(unittest.TestCase):
 
 SECRET = bytes(range(32))
 KEY = "bayou-key-1 room " + SECRET.hex()
-KNOWN = frame(0x31, vector(1) + struct.pack(">I", 100) + b"\0")
+KNOWN = frame(0x31, vector(1) + struct.pack(">I", 100) + b"\0\xff")
 
 
 def proof(role, *parts, secret=SECRET):
@@ -144,7 +144,7 @@ def greeting(welcome, *replies):
 def welcome_of(server=0, count=1, name=b"room", nonce=bytes(16), **more):
     def made(theirs):
         proved = proof(b"server", theirs, nonce, bytes([server, count]), **more)
-        return frame(0x30, bytes([1, server, count, len(name)]) + name + nonce + proved)
+        return frame(0x30, bytes([2, server, count, len(name)]) + name + nonce + proved)
     return made
 
 
@@ -160,12 +160,12 @@ class Greetings(unittest.TestCase):
         with greeting(welcome_of(), KNOWN, seen(NUMBER, 1)) as (address, came), bayou.Session([address], key=self.key) as session:
             self.assertEqual(session.read("room"), 7)
             nonce = came[0][7:23]
-            self.assertEqual(came[0], frame(0x20, bytes([1, 0, 255, 0]) + nonce))
+            self.assertEqual(came[0], frame(0x20, bytes([2, 0, 255, 0]) + nonce))
             self.assertEqual(came[1], frame(0x21, proof(b"client", bytes(16), nonce) + b"\0"))
 
     def test_a_server_that_has_it_not_is_sent_no_proof_and_no_request(self):
-        wrong = [welcome_of(secret=bytes(32)), welcome_of(name=b"other"), welcome_of(server=1), lambda nonce: frame(0x30, bytes([1, 0, 1, 0]) + bytes(48)),
-                 lambda nonce: frame(0x30, bytes([2, 0, 1, 4]) + b"room" + bytes(16) + proof(b"server", nonce, bytes(16), bytes([0, 1]))),
+        wrong = [welcome_of(secret=bytes(32)), welcome_of(name=b"other"), welcome_of(server=1), lambda nonce: frame(0x30, bytes([2, 0, 1, 0]) + bytes(48)),
+                 lambda nonce: frame(0x30, bytes([1, 0, 1, 4]) + b"room" + bytes(16) + proof(b"server", nonce, bytes(16), bytes([0, 1]))),
                  lambda nonce: frame(0x13, b"\1"), lambda nonce: KNOWN, lambda nonce: b"", lambda nonce: welcome_of()(nonce)[:-1]]
         for welcome in wrong:
             with greeting(welcome) as (address, came), bayou.Session([address], key=self.key, timeout=0.2) as session:
@@ -201,7 +201,7 @@ BEHIND = frame(0x13, b"\x02" + vector(1))
 
 
 def open_welcome(nonce, server=0):
-    return frame(0x30, bytes([1, server, 1, 0]) + bytes(16) + bytes(32))
+    return frame(0x30, bytes([2, server, 1, 0]) + bytes(16) + bytes(32))
 
 
 class Fake:

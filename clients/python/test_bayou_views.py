@@ -304,7 +304,7 @@ class Owns(unittest.TestCase):
 
 
 def welcome(server, count=2):
-    return lambda nonce: fakes.frame(0x30, bytes([1, server, count, 0]) + bytes(48))
+    return lambda nonce: fakes.frame(0x30, bytes([2, server, count, 0]) + bytes(48))
 
 
 def holds(*counts):

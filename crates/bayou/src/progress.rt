@@ -1,6 +1,7 @@
 //! What tells at a terminal that work goes on.
-ghost use Rattle.std.specs.Prelude.{◌≡◌, ◌+◌, ◌≤◌, ◌↔◌, true, false};
+ghost use Rattle.std.specs.Prelude.{◌≡◌, ◌≢◌, ◌+◌, ◌<◌, ◌≤◌, ◌↔◌, ◌++◌, ◌∷◌, IfOk, codes, decimal, not, string_bytes, true, false};
 ghost use Rattle.std.specs.Duration.{as_nanos};
+ghost use Rattle.bayou_streams.specs.Lines.{counted, line_feeds};
 
 use std::alloc::{AllocError, Global};
 use std::io::Write;
@@ -25,7 +26,9 @@ fn is_due(now: Duration, last: Duration) -> bool
 }
 
 /// The line that is shown.
-fn progress_line(alloc: Global, seconds: u64, lines: u64) -> Result<String, AllocError> {
+fn progress_line(alloc: Global, seconds: u64, lines: u64) -> Result<String, AllocError>
+    ensures { IfOk result (λ line. string_bytes line ≡ 13 ∷ codes "bayou: at work for " ++ (decimal seconds ++ (codes " s, " ++ (decimal lines ++ codes " lines printed")))) }
+{
     format!(in alloc; "\rbayou: at work for {seconds} s, {lines} lines printed")
 }
 
@@ -85,7 +88,9 @@ impl<E: Write> Screen<E> {
     }
 
     // Counts the line feeds.
-    fn count(&mut self, text: &[u8]) {
+    fn count(&mut self, text: &[u8])
+        ensures { self.new ≡ record self.old { printed = counted self.old.printed (line_feeds text.now) } }
+    {
         for byte in text {
             if *byte == b'\n' {
                 self.printed = self.printed.saturating_add(1);
@@ -94,7 +99,12 @@ impl<E: Write> Screen<E> {
     }
 
     // Tells of progress, where it is due.
-    fn tell(&mut self, alloc: Global, now: Duration) {
+    fn tell(&mut self, alloc: Global, now: Duration)
+        ensures printed { self.old.seen ≢ self.old.printed → self.new ≡ record self.old { seen = self.old.printed; last = now } }
+        ensures quiet { self.old.seen ≡ self.old.printed → as_nanos now < as_nanos self.old.last + 1000000000 → self.new ≡ self.old }
+        ensures due { self.old.seen ≡ self.old.printed → as_nanos self.old.last + 1000000000 ≤ as_nanos now
+            → self.new ≡ record self.old { last = now; is_shown = self.new.is_shown; terminal = self.new.terminal } }
+    {
         if self.seen != self.printed {
             self.seen = self.printed;
             self.last = now;
@@ -112,7 +122,10 @@ impl<E: Write> Screen<E> {
     }
 
     // Looks once, and says whether the work goes on.
-    fn look(&mut self, alloc: Global, now: Duration) -> bool {
+    fn look(&mut self, alloc: Global, now: Duration) -> bool
+        ensures goes_on { result ≡ not self.old.is_over }
+        ensures over { self.old.is_over ≡ true → self.new ≡ self.old }
+    {
         if self.is_over {
             return false;
         }

@@ -9,6 +9,12 @@ pub const OLD_SERVERS: usize = 8;
 /// How many servers a script over a network starts at the most.
 pub const NET_SERVERS: usize = 4;
 
+/// How many own Writes that aren't final a client keeps at the most; one more, and the oldest is forgotten.
+pub const MAX_OWN_WRITES: usize = 64;
+
+/// How many Writes beyond what is known as final a client asks a server for at the most, once something is known.
+pub const MAX_BEYOND_FINAL: u32 = 4_096;
+
 /// How many sessions there may be at the most.
 pub const SESSIONS: usize = 32;
 

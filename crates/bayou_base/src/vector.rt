@@ -1,4 +1,4 @@
-ghost use Rattle.std.specs.Prelude.{◌≡◌, ℕ, ◌≤◌, ◌↔◌, ◌⊎◌, All, IsTrue, IsSome, IfSome, replicate, slice_index};
+ghost use Rattle.std.specs.Prelude.{◌≡◌, ℕ, ◌≤◌, ◌↔◌, ◌⊎◌, All, IsTrue, IsSome, IfSome, replicate, slice_index, sum};
 ghost use Rattle.bayou_base.specs.declared.limits.TheConstants.{SERVERS, MAX_WRITES};
 ghost use Rattle.bayou_base.specs.Vector.{AreCounts, Covers, CoversAllOf, Dominates, joined, raised};
 
@@ -106,6 +106,17 @@ impl Vector {
         Vector {
             counts: greater_counts(&self.counts, &other.counts),
         }
+    }
+
+    /// How many Writes it counts.
+    pub fn total(&self) -> u32
+        ensures { result ≡ sum self.now }
+    {
+        let mut sum: u32 = 0;
+        for count in &self.counts {
+            sum += *count;
+        }
+        sum
     }
 
     /// Counts the Write, and so all of its server's before it.

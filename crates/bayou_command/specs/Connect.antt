@@ -12,7 +12,7 @@ store_rules = record (needed (option_rule (codes "server"))) { action = Some App
 
 -- what is kept, for how long it waits, and a file of lines or none
 abbrev pub kept_rules : List Rule
-kept_rules = file_option_rule (codes "state") ∷ file_option_rule (codes "book") ∷ number_rule (codes "wait") 0 MAX_SECONDS ∷ number_rule (codes "timeout") 1 MAX_SECONDS ∷ file_rule ∷ []
+kept_rules = file_option_rule (codes "state") ∷ file_option_rule (codes "book") ∷ file_option_rule (codes "log") ∷ number_rule (codes "wait") 0 MAX_SECONDS ∷ number_rule (codes "timeout") 1 MAX_SECONDS ∷ file_rule ∷ []
 
 abbrev pub connect_app : App
 connect_app = with_rules (with_rules (new_app (codes "connect")) store_rules) kept_rules
@@ -25,6 +25,7 @@ pub record Connection : Type 0 where
   pub key : Option Text
   pub state : Option Text
   pub book : Option Text
+  pub log : Option Text
   pub wait_seconds : ℕ
   pub timeout_seconds : ℕ
   pub input : Input
@@ -38,6 +39,7 @@ connection_of rows = record {
   key = given_of (codes "key") rows;
   state = given_of (codes "state") rows;
   book = given_of (codes "book") rows;
+  log = given_of (codes "log") rows;
   wait_seconds = number_of (codes "wait") 0 MAX_SECONDS 0 rows;
   timeout_seconds = number_of (codes "timeout") 1 MAX_SECONDS DEFAULT_TIMEOUT_SECONDS rows;
   input = input_of rows;
@@ -52,6 +54,7 @@ connection_seen connecting = record {
   key = option_map (λ name. name.now) connecting.key;
   state = option_map (λ name. name.now) connecting.state;
   book = option_map (λ name. name.now) connecting.book;
+  log = option_map (λ name. name.now) connecting.log;
   wait_seconds = connecting.wait_seconds;
   timeout_seconds = connecting.timeout_seconds;
   input = input_seen connecting.input;

@@ -53,6 +53,7 @@ plain_connection = record {
   key = None;
   state = None;
   book = None;
+  log = None;
   wait_seconds = 0;
   timeout_seconds = 3;
   input = standard;

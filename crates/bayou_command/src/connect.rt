@@ -33,6 +33,9 @@ const STATE: &str = "The file that keeps the session from one call to the next";
 
 const BOOK: &str = "The file that what was served is written to, as an audit file";
 
+const LOG: &str =
+    "The file to which each line that is printed is added, behind its time (milliseconds since 1970)";
+
 const WAIT: &str =
     "For so many seconds servers that are away or behind are tried again (0 to 86400; without it 0)";
 
@@ -96,7 +99,7 @@ What the session asks for is kept, too: a later --session that says anything els
 --key names the file of the store's key (bayou key --help). A server that doesn't prove that it has that key is told, and is sent nothing. A state
 that was made with a key is used with no other, and not without.
 --book writes what was served to FILE, as an audit file; with the dumps of all servers bayou audit tells whether the session had what it
-asked for.
+asked for. --log adds each line that is printed to FILE, behind its time, so that one can see later what was told, and when.
 
 At a terminal a prompt on standard error names the server that is asked first; rlwrap in front of the call brings line editing with history.
 
@@ -129,6 +132,7 @@ fn with_kept<'a>(alloc: Global, command: Command<'a>) -> Result<Command<'a>, All
     command
         .arg(file_option(alloc, "state", STATE))?
         .arg(file_option(alloc, "book", BOOK))?
+        .arg(file_option(alloc, "log", LOG))?
         .arg(number_option(alloc, "wait", "SECONDS", WAIT, 0, MAX_SECONDS))?
         .arg(number_option(alloc, "timeout", "SECONDS", TIMEOUT, 1, MAX_SECONDS))?
         .arg(Arg::new(alloc, "FILE").help(LINES))
@@ -168,6 +172,7 @@ pub(crate) fn connecting_in<'a>(
         key: text_if_given(found, "key"),
         state: text_if_given(found, "state"),
         book: text_if_given(found, "book"),
+        log: text_if_given(found, "log"),
         wait_seconds: number_in(found, "wait", 0, MAX_SECONDS, 0),
         timeout_seconds: number_in(found, "timeout", 1, MAX_SECONDS, DEFAULT_TIMEOUT_SECONDS),
         input: source_in(found),

@@ -509,6 +509,7 @@ pub fn connections_are_named()
     ensures key { AskFor (connect_with (codes "--key" ∷ codes "k" ∷ [])) (a_connect (record plain_connection { key = Some (codes "k") })) }
     ensures state { AskFor (connect_with (codes "--state" ∷ codes "s" ∷ [])) (a_connect (record plain_connection { state = Some (codes "s") })) }
     ensures book { AskFor (connect_with (codes "--book" ∷ codes "b" ∷ [])) (a_connect (record plain_connection { book = Some (codes "b") })) }
+    ensures log { AskFor (connect_with (codes "--log" ∷ codes "l" ∷ [])) (a_connect (record plain_connection { log = Some (codes "l") })) }
     ensures wait { AskFor (connect_with (codes "--wait" ∷ codes "5" ∷ [])) (a_connect (record plain_connection { wait_seconds = 5 })) }
     ensures timeout { AskFor (connect_with (codes "--timeout" ∷ codes "5" ∷ [])) (a_connect (record plain_connection { timeout_seconds = 5 })) }
     ensures named { AskFor (connect_with (codes "a.txt" ∷ [])) (a_connect (record plain_connection { input = file (codes "a.txt") })) }
@@ -529,10 +530,12 @@ pub fn connections_are_named()
     ensures key_twice { faults_of (connect_with (codes "--key" ∷ codes "k" ∷ codes "--key" ∷ codes "k" ∷ [])) ≡ ErrorKind.ArgumentConflict ∷ [] }
     ensures state_unnamed { faults_of (connect_with (codes "--state" ∷ [] ∷ [])) ≡ ErrorKind.InvalidValue ∷ [] }
     ensures book_unnamed { faults_of (connect_with (codes "--book" ∷ [] ∷ [])) ≡ ErrorKind.InvalidValue ∷ [] }
+    ensures log_unnamed { faults_of (connect_with (codes "--log" ∷ [] ∷ [])) ≡ ErrorKind.InvalidValue ∷ [] }
     ensures count_twice { faults_of (connect_with (codes "--servers" ∷ codes "3" ∷ codes "--servers" ∷ codes "3" ∷ [])) ≡ ErrorKind.ArgumentConflict ∷ [] }
     ensures asks_twice { faults_of (connect_with (codes "--session" ∷ codes "ryw" ∷ codes "--session" ∷ codes "ryw" ∷ [])) ≡ ErrorKind.ArgumentConflict ∷ [] }
     ensures state_twice { faults_of (connect_with (codes "--state" ∷ codes "s" ∷ codes "--state" ∷ codes "s" ∷ [])) ≡ ErrorKind.ArgumentConflict ∷ [] }
     ensures book_twice { faults_of (connect_with (codes "--book" ∷ codes "b" ∷ codes "--book" ∷ codes "b" ∷ [])) ≡ ErrorKind.ArgumentConflict ∷ [] }
+    ensures log_twice { faults_of (connect_with (codes "--log" ∷ codes "l" ∷ codes "--log" ∷ codes "l" ∷ [])) ≡ ErrorKind.ArgumentConflict ∷ [] }
     ensures wait_twice { faults_of (connect_with (codes "--wait" ∷ codes "5" ∷ codes "--wait" ∷ codes "5" ∷ [])) ≡ ErrorKind.ArgumentConflict ∷ [] }
     ensures timeout_twice { faults_of (connect_with (codes "--timeout" ∷ codes "5" ∷ codes "--timeout" ∷ codes "5" ∷ [])) ≡ ErrorKind.ArgumentConflict ∷ [] }
     ensures two_files { faults_of (connect_with (codes "a.txt" ∷ codes "b.txt" ∷ [])) ≡ ErrorKind.UnknownArgument ∷ [] }
@@ -540,7 +543,7 @@ pub fn connections_are_named()
 {}
 
 /// A law: whatever stands behind `--servers=`, `--wait=` and `--timeout=` is taken as the number in decimal digits that it is, where that is in
-/// its range, and any other text is refused. What stands behind `--server=`, `--session=`, `--key=`, `--state=` and `--book=` is taken as it stands, where the name of a
+/// its range, and any other text is refused. What stands behind `--server=`, `--session=`, `--key=`, `--state=`, `--book=` and `--log=` is taken as it stands, where the name of a
 /// file has a byte, and the servers in their order.
 pub fn connections_are_taken()
     ensures count { TakesNumbers 1 16 (λ text. connect_with ((codes "--servers=" ++ text) ∷ [])) (λ number. a_connect (record plain_connection { count = Some number })) }
@@ -551,6 +554,7 @@ pub fn connections_are_taken()
     ensures key { (byte : ℕ) (text : List ℕ) → AskFor (connect_with ((codes "--key=" ++ byte ∷ text) ∷ [])) (a_connect (record plain_connection { key = Some (byte ∷ text) })) }
     ensures state { (byte : ℕ) (text : List ℕ) → AskFor (connect_with ((codes "--state=" ++ byte ∷ text) ∷ [])) (a_connect (record plain_connection { state = Some (byte ∷ text) })) }
     ensures book { (byte : ℕ) (text : List ℕ) → AskFor (connect_with ((codes "--book=" ++ byte ∷ text) ∷ [])) (a_connect (record plain_connection { book = Some (byte ∷ text) })) }
+    ensures log { (byte : ℕ) (text : List ℕ) → AskFor (connect_with ((codes "--log=" ++ byte ∷ text) ∷ [])) (a_connect (record plain_connection { log = Some (byte ∷ text) })) }
 {}
 
 /// A law: `bayou key` with the name of a store and one file, in any order, asks for a key of that store in that file. Without one of the two, with an option

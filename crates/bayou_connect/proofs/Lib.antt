@@ -1,9 +1,15 @@
 pub mod Flat
+pub mod Following
 pub mod Going
 pub mod Kept
+pub mod Keys
+pub mod Learning
 pub mod Least
+pub mod Lining
 pub mod Naming
 pub mod Opening
+pub mod Owned
+pub mod Parting
 pub mod Picking
 pub mod Rounding
 pub mod Serving

@@ -1,5 +1,5 @@
 -- What is printed of an operation, and of what a session asks for: this project's own lines.
-use Rattle.std.specs.Prelude.{◌≡◌, ℕ, Bool, true, false, List, ◌++◌, Option, None, Some, codes, decimal}
+use Rattle.std.specs.Prelude.{◌≡◌, ℕ, Bool, true, false, List, ◌++◌, Option, None, Some, Result, Ok, Err, codes, decimal, option_and_then}
 use Rattle.bayou_answers.specs.declared.answer.Answer.TheVariants as answers
 use Rattle.bayou_base.specs.declared.asks.Asks.{Asks}
 use Rattle.bayou_base.specs.declared.session.SessionId.{SessionId}
@@ -7,10 +7,16 @@ use Rattle.bayou_connect.specs.Plans.{asks_said}
 use Rattle.bayou_connect.specs.declared.told.Told.{Told}
 use Rattle.bayou_connect.specs.declared.told.Told.TheVariants as told
 use Rattle.bayou_print.specs.Connected.{away_text}
+use Rattle.bayou_base.specs.declared.wid.Wid.{Wid}
 use Rattle.bayou_wire.specs.declared.lookup.Became.{Became}
 use Rattle.bayou_wire.specs.declared.lookup.Became.TheVariants.{Updated, Merged, Nothing}
 use Rattle.bayou_wire.specs.declared.lookup.Placed.{Placed}
 use Rattle.bayou_print.specs.Printed.{last_text}
+use Rattle.bayou_print.specs.declared.connected.TheConstants.{REOPEN_AWAY}
+use Rattle.bayou_answers.specs.declared.answer.Recovery.{Recovery}
+use Rattle.bayou_base.specs.declared.server.ServerId.{ServerId}
+use Rattle.bayou_client.specs.declared.fault.LinkFault.{LinkFault}
+use Rattle.bayou_connect.specs.Operating.{recovery_told}
 
 -- the line of what an operation was told, of which the key is one if it is a read
 abbrev pub told_text : (servers : ℕ) → SessionId → (key : Option (List ℕ)) → Told → List ℕ
@@ -52,3 +58,21 @@ changes_something (Some placed) = was_applied placed.became
 -- the line of a Write that did nothing
 abbrev pub nothing_text : SessionId → List ℕ
 nothing_text who = decimal who.index ++ codes " did nothing\n"
+
+-- what became of a server that was to open its journal again, if it was reached and a reply tells that
+abbrev pub recovery_of : ServerId → Option (Result (Option Wid) LinkFault) → Option Recovery
+recovery_of server told = option_and_then (recovery_told server) told
+
+-- the line of it
+abbrev pub recovery_text : (servers : ℕ) → Option Recovery → List ℕ
+recovery_text servers None = REOPEN_AWAY.now
+recovery_text servers (Some recovery) = last_text servers (answers.Recovered recovery)
+
+abbrev pub reopened_text : (servers : ℕ) → ServerId → Option (Result (Option Wid) LinkFault) → List ℕ
+reopened_text servers server told = recovery_text servers (recovery_of server told)
+
+-- it has opened its journal again
+abbrev pub is_reopened : Option (Result (Option Wid) LinkFault) → Bool
+is_reopened None = false
+is_reopened (Some (Ok adopted)) = true
+is_reopened (Some (Err fault)) = false

@@ -1,10 +1,15 @@
 -- Which sessions are open, and what they ask for: this project's own (sessions by Terry et al. 1994).
 use Rattle.std.specs.Prelude.{◌≡◌, ◌+◌, ◌<◌, ◌≤◌, ℕ, List, Option, None, Some, replicate, slice_index_or, slice_set}
+use Rattle.std.proofs.Common.{lit<}
 use Rattle.bayou_base.specs.declared.asks.Asks.{Asks}
 use Rattle.bayou_base.specs.declared.limits.TheConstants.{SERVERS, SESSIONS}
 use Rattle.bayou_base.specs.declared.session.SessionId.{SessionId}
 use Rattle.bayou_client.specs.Operating.{Asking}
 use Rattle.bayou_session.specs.Needs.{new_session, read_need}
+
+-- the session of short lines
+abbrev pub own_session : SessionId
+own_session = record { index = 0; in_range = lit< tt }
 
 -- what is kept of the session of this number, if anything
 abbrev pub kept_of : List (Option Asking) → SessionId → Option Asking

@@ -3,7 +3,7 @@ ghost use Rattle.std.specs.Prelude.{◌≡◌, ◌<◌, ◌≤◌, IfErr, IfOk, 
 ghost use Rattle.std.specs.Io.KnownBytes.{Appends};
 ghost use Rattle.bayou_base.specs.declared.limits.TheConstants.{SERVERS as NUMBER};
 ghost use Rattle.bayou_connect.specs.Faults.{IsBookFault};
-ghost use Rattle.bayou_connect.specs.Filing.{AreWholeLines};
+ghost use Rattle.bayou_connect.specs.Filing.{AreWholeLines, StaysOf};
 ghost use Rattle.bayou_connect.specs.declared.fault.ConnectFault.TheVariants.{Book};
 ghost use Rattle.bayou_print.specs.Booked.{entry_said, held_text, line_text};
 
@@ -36,17 +36,30 @@ fn whole_lines(text: &[u8]) -> usize
     whole
 }
 
+// How many bytes of the text of a book stay, which is to have this first line: its whole lines. Nothing where the text is something else.
+fn kept_of(text: &[u8], first: &[u8]) -> Option<usize>
+    ensures { StaysOf text.now first.now result }
+{
+    let whole = whole_lines(text);
+    let is_book = if whole == 0 {
+        first.starts_with(text)
+    } else {
+        text.starts_with(first)
+    };
+    if is_book { Some(whole) } else { None }
+}
+
 // Gives the file its first line, where it is empty, or sees that it has it, and cuts off a line that was torn. Whether that could be done.
 fn begin(file: &mut File, alloc: Global, first: &[u8]) -> bool {
     let mut text = Vec::new(alloc);
     if file.read_to_end(&mut text).is_err() {
         return false;
     }
-    let whole = whole_lines(&text);
-    if whole == 0 {
-        return first.starts_with(&text) && file.set_len(0).is_ok() && file.write_all(first).is_ok();
+    match kept_of(&text, first) {
+        None => false,
+        Some(0) => file.set_len(0).is_ok() && file.write_all(first).is_ok(),
+        Some(whole) => whole == text.len() || file.set_len(whole as u64).is_ok(),
     }
-    text.starts_with(first) && (whole == text.len() || file.set_len(whole as u64).is_ok())
 }
 
 // Puts the line at the end.

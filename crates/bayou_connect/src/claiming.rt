@@ -1,6 +1,7 @@
 //! Claims, of several keys one, and what an addition came to.
-ghost use Rattle.std.specs.Prelude.{◌≡◌, ◌↔◌, IfOk, MatchBool, OnOk, Some, true};
+ghost use Rattle.std.specs.Prelude.{◌≡◌, ◌↔◌, IfOk, MatchBool, Some, true};
 ghost use Rattle.bayou_connect.specs.Anywhere.{AsksAnywhere, AsksAt};
+ghost use Rattle.bayou_connect.specs.Desks.{IsSameSeat};
 ghost use Rattle.bayou_connect.specs.Operating.{SeesOther};
 ghost use Rattle.bayou_connect.specs.Printing.{told_text};
 ghost use Rattle.bayou_connect.specs.declared.asking.Attempt.TheVariants as attempts;
@@ -54,10 +55,11 @@ impl Desk {
         key: &Key,
         value: &Value,
     ) -> Result<bool, ConnectFault>
-        ensures { IfOk result (λ is_free. (told : Answered) × AsksAnywhere who (attempts.Read key.now) self.old.first self.old.rounds self.old.store self.new.store told
+        ensures read { IfOk result (λ is_free. (told : Answered) × AsksAnywhere who (attempts.Read key.now) self.old.first self.old.rounds self.old.store self.new.store told
             × (is_free ≡ true ↔ SeesOther value.now told)
             × MatchBool is_free (output.new ≡ output.old)
             (TakesBytes (account W.contents output.old) (account W.contents output.new) (told_text self.old.servers who (Some key.now) told))) }
+        ensures same { IsSameSeat self.old self.new }
     {
         let attempt = Attempt::Read(key.copy());
         let told = anywhere(rt, &mut self.store, who, &attempt, self.first, self.rounds)?;
@@ -98,8 +100,9 @@ impl Desk {
         key: &Key,
         value: &Value,
     ) -> Result<bool, ConnectFault>
-        ensures { OnOk result ((told : Answered) × AsksAt who (attempts.Read key.now) self.old.store at self.new.store told
+        ensures told { IfOk result (λ is_other. (told : Answered) × AsksAt who (attempts.Read key.now) self.old.store at self.new.store told × (is_other ≡ true ↔ SeesOther value.now told)
             × TakesBytes (account W.contents output.old) (account W.contents output.new) (told_text self.old.servers who (Some key.now) told)) }
+        ensures same { IsSameSeat self.old self.new }
     {
         let told = self.store.ask_at(rt, who, at, Attempt::Read(key.copy()))?;
         let is_other = is_other(&told, value);

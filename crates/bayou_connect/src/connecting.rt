@@ -1,8 +1,14 @@
 //! The lines of an input, done as they come.
-ghost use Rattle.std.specs.Prelude.{◌≡◌, ◌*◌, ◌<◌, ◌≤◌, false, IfOk, MatchOption, length, option_map, replicate, true, vec_len};
+ghost use Rattle.std.specs.Prelude.{◌≡◌, ◌*◌, ◌<◌, ◌≤◌, Bool, false, IfErr, IfOk, IsSomeAnd, MatchOption, None, length, option_copied, option_map, replicate, true, vec_len};
 ghost use Rattle.bayou_base.specs.declared.limits.TheConstants.{SERVERS as SERVERS_NUMBER, SESSIONS as NUMBER};
+ghost use Rattle.bayou_connect.specs.Faults.{IsBookFault, IsStateFault};
+ghost use Rattle.bayou_connect.specs.declared.fault.ConnectFault.TheVariants.{Memory};
 ghost use Rattle.bayou_connect.specs.Plans.{AsksBoth, Differ};
+ghost use Rattle.bayou_connect.specs.Remembered.{IsFoundIn};
 ghost use Rattle.bayou_connect.specs.Sessions.{IsOpenedFrom, kept_of};
+ghost use Rattle.bayou_connect.specs.Taking.{DoesNext, ended_as};
+ghost use Rattle.bayou_connect.specs.Reader.{left_in};
+ghost use Rattle.bayou_streams.specs.Account.{account};
 
 use crate::audit_file::AuditFile;
 use crate::desk::{Desk, OWN, numbered};
@@ -79,7 +85,9 @@ fn do_next<I: Read, W: Write, T: Files<File = File> + Sockets + Wait + Clock>(
     desk: &mut Desk,
     lines: &mut Lines<I>,
     output: &mut Output<W>,
-) -> Result<Became, ConnectFault> {
+) -> Result<Became, ConnectFault>
+    ensures { IfOk result (DoesNext (left_in I.remaining lines.old) (left_in I.remaining lines.new) desk.old desk.new (account W.contents output.old) (account W.contents output.new)) }
+{
     match lines.next_line()? {
         Next::End => Ok(Became::Ended),
         Next::TooLong => Ok(Became::Wrong(Wrong::Script(ScriptFault::BadShape))),
@@ -125,6 +133,7 @@ where
     W: Write,
     E: Write,
     T: Files<File = File> + Sockets + Wait + Clock,
+    ensures { IfOk result (λ ended. (is_wrong : Bool) × (ended ≡ ended_as is_wrong desk.new.is_served)) }
 {
     let Input {
         reader,
@@ -160,11 +169,18 @@ where
         }
     }
     desk.store.keep_views(rt)?;
-    Ok(match (is_wrong, desk.is_served) {
+    Ok(ended_by(is_wrong, desk.is_served))
+}
+
+// How all lines ended, by whether one of them couldn't be done, and whether each operation was served.
+fn ended_by(is_wrong: bool, is_served: bool) -> Ended
+    ensures { result ≡ ended_as is_wrong is_served }
+{
+    match (is_wrong, is_served) {
         (true, _) => Ended::Refused,
         (false, true) => Ended::Served,
         (false, false) => Ended::Unserved,
-    })
+    }
 }
 
 // How this program greets servers.
@@ -231,7 +247,9 @@ fn tell_entry<E: Write>(
     errors: &mut E,
     path: &str,
     entry: DamagedEntry,
-) -> Result<(), ConnectFault> {
+) -> Result<(), ConnectFault>
+    ensures { IfErr result (λ fault. fault ≡ Memory) }
+{
     let line = format!(in alloc; "bayou: {path}: {entry}\n")?;
     let _ = errors.write_all(line.as_bytes());
     Ok(())
@@ -248,6 +266,8 @@ fn found_in<E: Write, T: Files<File = File>>(
     errors: &mut E,
 ) -> Result<Found, ConnectFault>
     requires { 0 < run }
+    ensures found { IfOk result (λ found. IsFoundIn run (option_copied name.entry) found.state found.views found.sessions.items) }
+    ensures fault { IfErr result IsStateFault }
 {
     let Some(path) = name else {
         return Ok(Found {
@@ -281,6 +301,8 @@ fn book_in<T: Files<File = File>>(
     servers: u8,
 ) -> Result<Option<AuditFile>, ConnectFault>
     requires { (0 < servers) × (servers ≤ SERVERS_NUMBER) }
+    ensures book { IfOk result (λ book. MatchOption (option_copied name.entry) (book ≡ None) (λ path. IsSomeAnd book (λ file. file.count ≡ servers))) }
+    ensures fault { IfErr result IsBookFault }
 {
     match name {
         None => Ok(None),

@@ -1,8 +1,10 @@
 //! A person's desk: what a line asks for is done, and what becomes of it is printed.
-ghost use Rattle.std.specs.Prelude.{◌≡◌, ◌<◌, ◌≤◌, ◌↔◌, ◌&&◌, false, IfOk, IsTrue, MatchBool, None, OnOk, Some, slice_get, slice_set, true};
+ghost use Rattle.std.specs.Prelude.{◌≡◌, ◌≢◌, ◌<◌, ◌≤◌, ◌↔◌, ◌&&◌, false, IfOk, IfSome, IsSomeAnd, IsTrue, MatchBool, None, Ok, OnOk, Some, slice_get, slice_set, true};
 ghost use Rattle.std.specs.Bool.{OnFalse, OnTrue};
 ghost use Rattle.bayou_base.specs.declared.limits.TheConstants.{SERVERS as NUMBER};
 ghost use Rattle.bayou_connect.specs.Anywhere.{AsksAnywhere, AsksServer};
+ghost use Rattle.bayou_connect.specs.Claims.{IsAskedAt, IsMade, IsMadeAs};
+ghost use Rattle.bayou_connect.specs.Commands.{Operates, is_of_servers, operation_of, session_of};
 ghost use Rattle.bayou_connect.specs.Printing.{is_service, nothing_text, told_text};
 ghost use Rattle.bayou_connect.specs.Sessions.{IsNumbered, IsOpenedFrom};
 ghost use Rattle.bayou_connect.specs.declared.asking.Attempt.TheVariants as attempts;
@@ -98,6 +100,7 @@ impl Desk {
         ensures printed { OnOk result (TakesBytes (account W.contents output.old) (account W.contents output.new) (told_text self.old.servers who key.now told)) }
         ensures served { self.new.is_served ≡ (self.old.is_served && is_service told) }
         ensures same { self.new.store ≡ self.old.store }
+        ensures others { self.new ≡ record self.old { is_served = self.new.is_served } }
     {
         if !matches!(
             told,
@@ -118,6 +121,7 @@ impl Desk {
         ensures printed { OnOk result (TakesBytes (account W.contents output.old) (account W.contents output.new) (nothing_text who)) }
         ensures served { self.new.is_served ≡ false }
         ensures same { self.new.store ≡ self.old.store }
+        ensures others { self.new ≡ record self.old { is_served = false } }
     {
         self.is_served = false;
         let line = nothing_line(self.alloc, who)?;
@@ -174,13 +178,40 @@ impl Desk {
         }
     }
 
+    // The server that was asked last for the session's Write that may be asked again, if it is at hand: its place.
+    fn asked_place(&self, who: SessionId) -> Option<usize>
+        ensures { IfSome result (λ at. IsSomeAnd (slice_get self.now.store.accesses.items at) (λ access. IsAskedAt self.now.store who access.place.id)) }
+    {
+        let asked = self.store.session(who)?.asked().as_ref()?;
+        self.store.place_of(asked.server)
+    }
+
+    /// The Write of short lines that may be asked again, once more. As what it was accepted, if it was.
+    pub(crate) fn write_again<W: Write, T: Files<File = File> + Sockets + Wait + Clock>(
+        &mut self,
+        rt: &T,
+        output: &mut Output<W>,
+        who: SessionId,
+    ) -> Result<Option<Made>, ConnectFault> {
+        let Some(at) = self.asked_place(who) else {
+            self.ask_again(rt, output, who)?;
+            return Ok(None);
+        };
+        let told = self.store.ask_at(rt, who, at, Attempt::Again)?;
+        let made = self.made_by(&told);
+        self.finish(output, who, &None, told)?;
+        Ok(made)
+    }
+
     // A script's operation.
     fn operate<W: Write, T: Files<File = File> + Sockets + Wait + Clock>(
         &mut self,
         rt: &T,
         output: &mut Output<W>,
         operation: Operation,
-    ) -> Result<bool, ConnectFault> {
+    ) -> Result<bool, ConnectFault>
+        ensures { IfOk result (λ done. Operates operation self.old.servers self.old.store self.new.store (account W.contents output.old) (account W.contents output.new) done) }
+    {
         let who = operation.session;
         match operation.attempt {
             Said::Write { server, program } => {
@@ -195,10 +226,27 @@ impl Desk {
     }
 
     // The Write that was accepted, where its server is at hand.
-    fn made_of(&self, accepted: &Accepted) -> Option<Made> {
+    fn made_of(&self, accepted: &Accepted) -> Option<Made>
+        ensures { IsMadeAs self.now.store.accesses.items accepted.now result }
+    {
         let (wid, clock) = (accepted.wid, accepted.stamp.clock);
         let at = self.store.place_of(wid.origin)?;
         Some(Made { at, wid, clock })
+    }
+
+    // The Write that was accepted, if it was told that one was, where its server is at hand.
+    fn made_by(&self, told: &Told) -> Option<Made>
+        ensures { IsMade self.now.store.accesses.items told.now result }
+    {
+        match told {
+            Told::Accepted(accepted) => self.made_of(accepted),
+            Told::Away
+            | Told::Seen(_)
+            | Told::Rows(_)
+            | Told::Fate(_)
+            | Told::Refused(_)
+            | Told::Lost => None,
+        }
     }
 
     // Opens the session, unless a line did so before.
@@ -224,7 +272,13 @@ impl Desk {
         rt: &T,
         output: &mut Output<W>,
         command: Command,
-    ) -> Result<bool, ConnectFault> {
+    ) -> Result<bool, ConnectFault>
+        ensures opened { IfSome (session_of command) (λ (who, asks). IfOk result (λ done. MatchBool done
+            ((slice_get self.old.opened who.index ≡ Some false) × IsOpenedFrom self.old.first_number who self.old.run asks self.old.store.sessions.items self.new.store.sessions.items)
+            ((slice_get self.old.opened who.index ≢ Some false) × (self.new ≡ self.old)) × (output.new ≡ output.old))) }
+        ensures operates { IfSome (operation_of command) (λ operation. IfOk result (Operates operation self.old.servers self.old.store self.new.store (account W.contents output.old) (account W.contents output.new))) }
+        ensures others { is_of_servers command ≡ true → (result ≡ Ok false) × (self.new ≡ self.old) × (output.new ≡ output.old) }
+    {
         match command {
             Command::Session { session, asks } => Ok(self.open(session, asks)),
             Command::Operation(operation) => self.operate(rt, output, operation),
@@ -250,8 +304,9 @@ impl Desk {
         who: SessionId,
         key: Key,
     ) -> Result<(), ConnectFault>
-        ensures { OnOk result ((told : Answered) × AsksAnywhere who (attempts.Read key) self.old.first self.old.rounds self.old.store self.new.store told
+        ensures read { OnOk result ((told : Answered) × AsksAnywhere who (attempts.Read key) self.old.first self.old.rounds self.old.store self.new.store told
             × TakesBytes (account W.contents output.old) (account W.contents output.new) (told_text self.old.servers who (Some key) told)) }
+        ensures others { self.new ≡ record self.old { store = self.new.store; is_served = self.new.is_served } }
     {
         let attempt = Attempt::Read(key.copy());
         let told = anywhere(rt, &mut self.store, who, &attempt, self.first, self.rounds)?;
@@ -266,15 +321,14 @@ impl Desk {
         who: SessionId,
         program: RestingProgram,
     ) -> Result<Option<Made>, ConnectFault>
-        ensures { OnOk result ((told : Answered) × AsksAnywhere who (attempts.Write program) self.old.first self.old.rounds self.old.store self.new.store told
-            × TakesBytes (account W.contents output.old) (account W.contents output.new) (told_text self.old.servers who None told)) }
+        ensures written { IfOk result (λ made. (told : Answered) × AsksAnywhere who (attempts.Write program) self.old.first self.old.rounds self.old.store self.new.store told
+            × TakesBytes (account W.contents output.old) (account W.contents output.new) (told_text self.old.servers who None told)
+            × IsMade self.new.store.accesses.items told made) }
+        ensures others { self.new ≡ record self.old { store = self.new.store; is_served = self.new.is_served } }
     {
         let attempt = Attempt::Write(program);
         let told = anywhere(rt, &mut self.store, who, &attempt, self.first, self.rounds)?;
-        let made = match &told {
-            Told::Accepted(accepted) => self.made_of(accepted),
-            _ => None,
-        };
+        let made = self.made_by(&told);
         self.finish(output, who, &None, told)?;
         Ok(made)
     }

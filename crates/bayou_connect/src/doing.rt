@@ -1,6 +1,10 @@
 //! A line, done.
-ghost use Rattle.std.specs.Prelude.{◌≡◌};
-ghost use Rattle.bayou_connect.specs.Speaking.{spoken_of};
+ghost use Rattle.std.specs.Prelude.{◌≡◌, ◌≢◌, ℕ, List, IfOk, IfSome, Ok};
+ghost use Rattle.std.specs.Str.{IsTrimAscii};
+ghost use Rattle.bayou_connect.specs.Speaking.{AsksToWait, DoesLine, DoesSpoken, spoken_of, unread_line};
+ghost use Rattle.bayou_connect.specs.declared.doing.Became.TheVariants as became;
+ghost use Rattle.bayou_person.specs.declared.wish.WishFault.{WishFault as NoWish};
+ghost use Rattle.bayou_streams.specs.Account.{account};
 
 use crate::desk::{Desk, OWN, print};
 use crate::fault::ConnectFault;
@@ -58,7 +62,9 @@ pub(crate) enum Spoken {
 }
 
 // What a line of a script that wasn't read is told as.
-fn wrong_of(fault: LineFault) -> Result<Wrong, ConnectFault> {
+fn wrong_of(fault: LineFault) -> Result<Wrong, ConnectFault>
+    ensures { result ≡ unread_line fault }
+{
     Ok(Wrong::Script(match fault {
         LineFault::OutOfMemory => return Err(ConnectFault::Memory),
         LineFault::NotJson => ScriptFault::NotJson,
@@ -74,7 +80,9 @@ fn do_script_line<W: Write, T: Files<File = File> + Sockets + Wait + Clock>(
     desk: &mut Desk,
     output: &mut Output<W>,
     line: &[u8],
-) -> Result<Became, ConnectFault> {
+) -> Result<Became, ConnectFault>
+    ensures { IfOk result (λ done. done ≢ became.Quit) }
+{
     let command = match read_line(desk.alloc, line) {
         Ok(Line::Command(command)) => command,
         Ok(_) => return Ok(Became::Wrong(Wrong::Script(ScriptFault::OutOfPlace))),
@@ -87,7 +95,9 @@ fn do_script_line<W: Write, T: Files<File = File> + Sockets + Wait + Clock>(
 }
 
 // For how many seconds a line asks to wait, if it says that in digits behind the word.
-fn seconds_in(line: &[u8]) -> Option<u32> {
+fn seconds_in(line: &[u8]) -> Option<u32>
+    ensures { IfSome result (AsksToWait line.now) }
+{
     let text = str::from_utf8(line).ok()?;
     let (first, seconds) = text.split_once(' ')?;
     if first != "wait" || !seconds.as_bytes().iter().all(|byte| byte.is_ascii_digit()) {
@@ -116,7 +126,10 @@ fn do_wish<W: Write, T: Files<File = File> + Sockets + Wait + Clock>(
     desk: &mut Desk,
     output: &mut Output<W>,
     line: &[u8],
-) -> Result<Became, ConnectFault> {
+) -> Result<Became, ConnectFault>
+    ensures wrong { (fault : NoWish) → result ≡ Ok (Became.Wrong (Wrong.Wish fault)) → (desk.new ≡ desk.old) × (output.new ≡ output.old) }
+    ensures only { IfOk result (λ done. done ≢ became.Quit) }
+{
     let Ok(text) = str::from_utf8(line) else {
         return Ok(Became::Wrong(Wrong::Wish(WishFault::Word)));
     };
@@ -138,14 +151,18 @@ fn do_short_line<W: Write, T: Files<File = File> + Sockets + Wait + Clock>(
     desk: &mut Desk,
     output: &mut Output<W>,
     line: &[u8],
-) -> Result<Became, ConnectFault> {
+) -> Result<Became, ConnectFault>
+    ensures { DoesSpoken (spoken_of line.now) result desk.old desk.new (account W.contents output.old) (account W.contents output.new) }
+{
     match spoken_in(line) {
         None => match seconds_in(line) {
             None => return do_wish(rt, desk, output, line),
             Some(seconds) => desk.wait_for_finals(rt, output, seconds)?,
         },
         Some(Spoken::Again) => {
-            desk.ask_again(rt, output, OWN)?;
+            if let Some(made) = desk.write_again(rt, output, OWN)? {
+                desk.tell_outcome(rt, output, OWN, made)?;
+            }
         }
         Some(Spoken::Help) => print(output, HELP)?,
         Some(Spoken::Mine) => desk.tell_finals(rt, output, Telling::All)?,
@@ -161,7 +178,9 @@ pub(crate) fn do_line<W: Write, T: Files<File = File> + Sockets + Wait + Clock>(
     desk: &mut Desk,
     output: &mut Output<W>,
     line: &[u8],
-) -> Result<Became, ConnectFault> {
+) -> Result<Became, ConnectFault>
+    ensures { (words : List ℕ) × IsTrimAscii line.now words × DoesLine words result desk.old desk.new (account W.contents output.old) (account W.contents output.new) }
+{
     match line.trim_ascii() {
         [] => Ok(Became::Done),
         [b'[', ..] => do_script_line(rt, desk, output, line),

@@ -1,16 +1,23 @@
 //! What a person is told of what is final.
-ghost use Rattle.std.specs.Prelude.{◌≡◌, ◌||◌, IfOk, OnOk, Some, true};
-ghost use Rattle.bayou_connect.specs.Finals.{is_void_for_good, told_as};
-ghost use Rattle.bayou_print.specs.Standing.{forgotten_text, standing_text};
+ghost use Rattle.std.specs.Prelude.{◌≡◌, ◌+◌, ◌-◌, ◌^◌, ◌⊎◌, ◌&&◌, ◌||◌, [], if◌then◌else◌, IfOk, MatchOption, None, Ok, OnOk, Some, is_none, min, not, option_map, slice_get, true};
+ghost use Rattle.bayou_connect.specs.Beyond.{standing_at};
+ghost use Rattle.bayou_connect.specs.Desks.{IsSameDesk};
+ghost use Rattle.bayou_connect.specs.Finals.{is_void_for_good, keeps_finals, outlook_of, own_in, told_as};
+ghost use Rattle.bayou_connect.specs.Own.{KeepsOwn, TellsFrom, TellsOwn, own_write};
+ghost use Rattle.bayou_connect.specs.declared.finals.Telling.TheVariants.{News};
+ghost use Rattle.bayou_final.specs.declared.standing.Standing.{Standing as Stands};
+ghost use Rattle.bayou_base.specs.declared.limits.TheConstants.{MAX_OWN_WRITES as MOST};
+ghost use Rattle.bayou_print.specs.Standing.{forgotten_text, key_standing_text, standing_text};
 ghost use Rattle.bayou_streams.specs.Account.{TakesBytes, account};
 
 use crate::desk::{Desk, Made, OWN, print};
 use crate::fault::ConnectFault;
 use crate::looking::Beyond;
+use bayou_base::limits::MAX_OWN_WRITES;
 use bayou_base::{Key, Wid};
 use bayou_final::Standing;
 use bayou_net::Sockets;
-use bayou_outlook::{MAX_OWN_WRITES, OwnWrite};
+use bayou_outlook::OwnWrite;
 use bayou_print::{forgotten_line, key_standing_line, standing_line};
 use bayou_streams::Output;
 use bayou_wire::{Became, Placed};
@@ -45,6 +52,17 @@ fn standing_told(news: Option<Standing>, telling: Telling) -> Option<Standing>
     }
 }
 
+// The place of the next own Write: the same, where the one there is kept no longer.
+fn place_behind(place: usize, is_gone: bool) -> usize
+    ensures { result ≡ (if is_gone then place else min (place + 1) (2 ^ 64 - 1)) }
+{
+    if is_gone {
+        place
+    } else {
+        place.saturating_add(1)
+    }
+}
+
 impl Desk {
     /// Keeps an own Write that was accepted, with what was told of it, where it is kept what is final. The oldest goes where there are as many as may be,
     /// which is told.
@@ -54,7 +72,10 @@ impl Desk {
         output: &mut Output<W>,
         made: Made,
         placed: &Option<Placed>,
-    ) -> Result<(), ConnectFault> {
+    ) -> Result<(), ConnectFault>
+        ensures kept { OnOk result (KeepsOwn (outlook_of self.old.store.views) (own_write made placed.now) (outlook_of self.new.store.views) (account W.contents output.old) (account W.contents output.new)) }
+        ensures same { IsSameDesk self.old self.new × (self.new.is_served ≡ self.old.is_served) × (self.new.store.accesses ≡ self.old.store.accesses) }
+    {
         let told = match placed {
             Some(placed) => Some(placed.became),
             None => None,
@@ -98,7 +119,10 @@ impl Desk {
         place: usize,
         write: OwnWrite,
         telling: Telling,
-    ) -> Result<bool, ConnectFault> {
+    ) -> Result<bool, ConnectFault>
+        ensures told { IfOk result (λ gone. TellsOwn (outlook_of self.old.store.views) place write telling gone (outlook_of self.new.store.views) (account W.contents output.old) (account W.contents output.new)) }
+        ensures same { IsSameDesk self.old self.new × (self.new.is_served ≡ self.old.is_served) }
+    {
         let Some(placed) = self.store.placed(rt, write.wid)? else {
             return Ok(false);
         };
@@ -126,6 +150,7 @@ impl Desk {
         ensures printed { OnOk result (TakesBytes (account W.contents output.old) (account W.contents output.new) (standing_text 0 standing wid (Some placed))) }
         ensures void { self.new.is_void ≡ (self.old.is_void || is_void_for_good standing placed.became) }
         ensures same { (self.new.store ≡ self.old.store) × (self.new.is_served ≡ self.old.is_served) }
+        ensures desk { IsSameDesk self.old self.new }
     {
         if standing == Standing::Final && placed.became == Became::Nothing {
             self.is_void = true;
@@ -140,15 +165,18 @@ impl Desk {
         rt: &T,
         output: &mut Output<W>,
         telling: Telling,
-    ) -> Result<(), ConnectFault> {
+    ) -> Result<(), ConnectFault>
+        ensures told { OnOk result (TellsFrom MOST 0 telling (outlook_of self.old.store.views) (outlook_of self.new.store.views) (account W.contents output.old) (account W.contents output.new)) }
+        ensures same { IsSameDesk self.old self.new × (self.new.is_served ≡ self.old.is_served) }
+    {
         let mut place = 0;
         for _ in 0..MAX_OWN_WRITES {
             let Some(write) = self.store.own_at(place) else {
-                break;
+                return Ok(());
             };
-            if !self.tell_own(rt, output, place, write, telling)? {
-                place = place.saturating_add(1);
-            }
+            let is_gone = self.tell_own(rt, output, place, write, telling)?;
+            let next = place_behind(place, is_gone);
+            place = next;
         }
         Ok(())
     }
@@ -160,7 +188,10 @@ impl Desk {
         rt: &T,
         output: &mut Output<W>,
         telling: Telling,
-    ) -> Result<(), ConnectFault> {
+    ) -> Result<(), ConnectFault>
+        ensures none { telling ≡ News → own_in (outlook_of self.old.store.views) ≡ [] → (result ≡ Ok tt) × (self.new ≡ self.old) × (output.new ≡ output.old) }
+        ensures same { IsSameDesk self.old self.new × (self.new.is_served ≡ self.old.is_served) }
+    {
         if telling == Telling::News && self.store.own_at(0).is_none() {
             return Ok(());
         }
@@ -176,7 +207,10 @@ impl Desk {
         rt: &T,
         output: &mut Output<W>,
         seconds: u32,
-    ) -> Result<(), ConnectFault> {
+    ) -> Result<(), ConnectFault>
+        ensures served { OnOk result (self.new.is_served ≡ (self.old.is_served && not self.new.is_void && is_none (slice_get (own_in (outlook_of self.new.store.views)) 0))) }
+        ensures same { IsSameDesk self.old self.new }
+    {
         self.is_void = false;
         for _ in 0..u64::from(seconds) * (1_000 / REST_MILLISECONDS) {
             self.tell_finals(rt, output, Telling::News)?;
@@ -193,7 +227,9 @@ impl Desk {
     }
 
     /// How the value of a key stands, where it is kept what is final: it may change yet where it isn't known which keys may.
-    pub(crate) fn standing(&self, beyond: &Option<Beyond>, key: &Key) -> Option<Standing> {
+    pub(crate) fn standing(&self, beyond: &Option<Beyond>, key: &Key) -> Option<Standing>
+        ensures { result ≡ (if keeps_finals (outlook_of self.now.store.views) then Some (standing_at beyond.now key.now) else None) }
+    {
         if !self.store.keeps_finals() {
             return None;
         }
@@ -209,7 +245,11 @@ impl Desk {
         rt: &T,
         output: &mut Output<W>,
         key: &Key,
-    ) -> Result<(), ConnectFault> {
+    ) -> Result<(), ConnectFault>
+        ensures printed { OnOk result ((output.new ≡ output.old) ⊎ ((standing : Stands) × TakesBytes (account W.contents output.old) (account W.contents output.new) (key_standing_text 0 standing key.now))) }
+        ensures none { self.old.store.views ≡ None → (result ≡ Ok tt) × (output.new ≡ output.old) }
+        ensures same { IsSameDesk self.old self.new × (self.new.is_served ≡ self.old.is_served) }
+    {
         let Some(view) = self.store.read_last() else {
             return Ok(());
         };

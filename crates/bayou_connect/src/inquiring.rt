@@ -1,6 +1,13 @@
 //! What is asked of servers beside a session's operations.
-ghost use Rattle.std.specs.Prelude.{◌≡◌};
+ghost use Rattle.std.specs.Prelude.{◌≡◌, ◌≢◌, ◌&&◌, List, ℕ, All, IfOk, MatchBool, MatchOption, None, Ok, OnOk, Option, Result, false, is_some};
+ghost use Rattle.bayou_base.specs.declared.wid.Wid.{Wid as Name};
+ghost use Rattle.bayou_client.specs.declared.fault.LinkFault.{LinkFault as Fault};
+ghost use Rattle.bayou_connect.specs.Desks.{IsSameDesk, IsSameSeat};
 ghost use Rattle.bayou_connect.specs.Operating.{recovery_told};
+ghost use Rattle.bayou_connect.specs.Printing.{IsAsksLine, is_reopened, reopened_text};
+ghost use Rattle.bayou_connect.specs.Sessions.{kept_of, own_session};
+ghost use Rattle.bayou_print.specs.Connected.{seat_text};
+ghost use Rattle.bayou_streams.specs.Account.{Account, TakesBytes, account};
 
 use crate::desk::{Desk, OWN, print};
 use crate::fault::ConnectFault;
@@ -33,7 +40,13 @@ impl Desk {
         rt: &T,
         output: &mut Output<W>,
         server: ServerId,
-    ) -> Result<bool, ConnectFault> {
+    ) -> Result<bool, ConnectFault>
+        ensures done { IfOk result (λ done. MatchBool done
+            ((told : Option (Result (Option Name) Fault)) × (self.new.is_served ≡ (self.old.is_served && is_reopened told))
+            × TakesBytes (account W.contents output.old) (account W.contents output.new) (reopened_text self.old.servers server told))
+            (All (λ access. access.place.id ≢ server) self.old.store.accesses.items × (self.new ≡ self.old) × (output.new ≡ output.old))) }
+        ensures same { IsSameDesk self.old self.new }
+    {
         let Some(at) = self.store.place_of(server) else {
             return Ok(false);
         };
@@ -81,7 +94,12 @@ impl Desk {
     pub(crate) fn tell_session<W: Write>(
         &mut self,
         output: &mut Output<W>,
-    ) -> Result<(), ConnectFault> {
+    ) -> Result<(), ConnectFault>
+        ensures told { OnOk result (MatchOption (kept_of self.old.store.sessions.items own_session) (output.new ≡ output.old)
+            (λ kept. (asks : List ℕ) × (line : Account) × IsAsksLine own_session kept.session.asks asks × TakesBytes (account W.contents output.old) line asks
+            × TakesBytes line (account W.contents output.new) (seat_text 0 self.old.servers kept.session.reads kept.session.writes))) }
+        ensures same { self.new ≡ self.old }
+    {
         let Some(kept) = self.store.session(OWN) else {
             return Ok(());
         };
@@ -98,7 +116,11 @@ impl Desk {
         &mut self,
         rt: &T,
         output: &mut Output<W>,
-    ) -> Result<bool, ConnectFault> {
+    ) -> Result<bool, ConnectFault>
+        ensures done { IfOk result (λ done. done ≡ is_some self.old.store.book) }
+        ensures none { self.old.store.book ≡ None → (result ≡ Ok false) × (self.new ≡ self.old) × (output.new ≡ output.old) }
+        ensures same { IsSameSeat self.old self.new × (self.new.store.sessions ≡ self.old.store.sessions) × (self.new.store.state ≡ self.old.store.state) }
+    {
         if !self.store.has_book() {
             return Ok(false);
         }

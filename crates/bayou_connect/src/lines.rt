@@ -1,5 +1,5 @@
 //! Lines of an input, as they come.
-ghost use Rattle.std.specs.Prelude.{◌≤◌};
+ghost use Rattle.std.specs.Prelude.{◌≡◌, ◌≤◌, ◌==◌, position};
 ghost use Rattle.bayou_base.specs.declared.limits.TheConstants.{READ_BYTES as PIECE};
 
 use bayou_base::limits::{MAX_LINE_BYTES, READ_BYTES};
@@ -50,9 +50,23 @@ impl From<AllocError> for LineFault {
     }
 }
 
+// The place of the first line feed.
+fn line_feed_in(bytes: &[u8]) -> Option<usize>
+    ensures { result ≡ position (λ byte. byte == 10) bytes.now }
+{
+    bytes.iter().position(|byte| *byte == b'\n')
+}
+
 impl<R: Read> Lines<R> {
+    ghost use Rattle.std.specs.Prelude.{◌+◌, ◌-◌, ◌<◌, ◌++◌, [], ℕ, List, IfOk, MatchBool, OnOk, false, length, take};
+    ghost use Rattle.std.specs.Io.KnownBytes.{IsAtEnd, Keeps};
+    ghost use Rattle.bayou_base.specs.declared.limits.TheConstants.{MAX_LINE_BYTES};
+    ghost use Rattle.bayou_connect.specs.Reader.{GivesPart, PutsLine, TakesLine, left_in};
+
     /// The lines of what the reader has left.
-    pub(crate) fn new(alloc: Global, reader: R) -> Self {
+    pub(crate) fn new(alloc: Global, reader: R) -> Self
+        ensures { left_in R.remaining result ≡ R.remaining reader }
+    {
         Lines {
             reader,
             alloc,
@@ -64,10 +78,18 @@ impl<R: Read> Lines<R> {
     }
 
     // Reads the next piece, where the last one was given. Whether there is one.
-    fn fill(&mut self) -> Result<bool, LineFault> {
+    fn fill(&mut self) -> Result<bool, LineFault>
+        requires given { self.old.to ≤ self.old.from }
+        requires open { self.old.has_ended ≡ false }
+        ensures same { OnOk result (Keeps (left_in R.remaining self.old) (left_in R.remaining self.new)) }
+        ensures more { IfOk result (λ more. MatchBool more (self.new.from < self.new.to) (IsAtEnd (left_in R.remaining self.new))) }
+    {
         for _ in 0..u64::MAX {
             match self.reader.read(&mut self.piece) {
-                Ok(0) => break,
+                Ok(0) => {
+                    self.has_ended = true;
+                    return Ok(false);
+                }
                 Ok(count) => {
                     self.from = 0;
                     self.to = count.min(READ_BYTES);
@@ -77,12 +99,14 @@ impl<R: Read> Lines<R> {
                 Err(_) => return Err(LineFault::Input),
             }
         }
-        self.has_ended = true;
-        Ok(false)
+        Err(LineFault::Input)
     }
 
     // Whether bytes are left to give.
-    fn has_more(&mut self) -> Result<bool, LineFault> {
+    fn has_more(&mut self) -> Result<bool, LineFault>
+        ensures same { OnOk result (Keeps (left_in R.remaining self.old) (left_in R.remaining self.new)) }
+        ensures more { IfOk result (λ more. MatchBool more (self.new.from < self.new.to) (IsAtEnd (left_in R.remaining self.new))) }
+    {
         if self.from < self.to {
             return Ok(true);
         }
@@ -93,34 +117,52 @@ impl<R: Read> Lines<R> {
     }
 
     // Puts what of the line is in the piece behind the line, as far as a line may be long and one byte more. Whether the line ended.
-    fn take_into(&mut self, line: &mut Vec<u8>) -> Result<bool, LineFault> {
+    fn take_into(&mut self, line: &mut Vec<u8>) -> Result<bool, LineFault>
+        requires { self.old.from < self.old.to }
+        ensures { IfOk result (λ ended. (passed : List ℕ) × GivesPart (left_in R.remaining self.old) (left_in R.remaining self.new) passed ended
+            × (line.new.items ≡ line.old.items ++ take (MAX_LINE_BYTES + 1 - length line.old.items) passed)) }
+    {
         let rest = &self.piece[self.from..self.to];
-        let found = rest.iter().position(|byte| *byte == b'\n');
+        let found = line_feed_in(rest);
         let count = found.unwrap_or(rest.len());
         let room = (MAX_LINE_BYTES + 1).saturating_sub(line.len());
         line.extend_from_slice(&rest[..count.min(room)])?;
-        let passed = match found {
-            Some(at) => at + 1,
-            None => count,
-        };
-        self.from += passed;
-        Ok(found.is_some())
+        match found {
+            Some(at) => {
+                self.from += at + 1;
+                Ok(true)
+            }
+            None => {
+                self.from = self.to;
+                Ok(false)
+            }
+        }
     }
 
-    /// The next line. Of one that is too long nothing is kept, and it is passed over to its end.
-    pub(crate) fn next_line(&mut self) -> Result<Next, LineFault> {
-        let mut line = Vec::new(self.alloc);
+    // Puts the next line behind none, as far as a line may be long and one byte more. Whether there is one.
+    fn take_line(&mut self, line: &mut Vec<u8>) -> Result<bool, LineFault>
+        requires { line.old.items ≡ [] }
+        ensures { IfOk result (λ has_any. PutsLine (left_in R.remaining self.old) (left_in R.remaining self.new) line.new.items has_any) }
+    {
         let mut has_any = false;
         for _ in 0..u64::MAX {
             if !self.has_more()? {
-                break;
+                return Ok(has_any);
             }
             has_any = true;
-            if self.take_into(&mut line)? {
-                break;
+            if self.take_into(line)? {
+                return Ok(true);
             }
         }
-        if !has_any {
+        Err(LineFault::Input)
+    }
+
+    /// The next line. Of one that is too long nothing is kept, and it is passed over to its end.
+    pub(crate) fn next_line(&mut self) -> Result<Next, LineFault>
+        ensures { IfOk result (TakesLine (left_in R.remaining self.old) (left_in R.remaining self.new)) }
+    {
+        let mut line = Vec::new(self.alloc);
+        if !self.take_line(&mut line)? {
             return Ok(Next::End);
         }
         if line.len() > MAX_LINE_BYTES {

@@ -1,5 +1,10 @@
 //! Rows of a database, which a server tells page after page.
-ghost use Rattle.std.specs.Prelude.{◌≡◌, [], ◌++◌, IfOk, MatchOption, OnOk, option_copied};
+ghost use Rattle.std.specs.Prelude.{◌≡◌, ◌&&◌, [], ◌++◌, IfOk, MatchOption, None, Ok, OnOk, false, nat_eq, option_copied};
+ghost use Rattle.std.specs.List.{starts_with};
+ghost use Rattle.bayou_connect.specs.Desks.{IsSameDesk};
+ghost use Rattle.bayou_connect.specs.Finals.{keeps_finals, outlook_of};
+ghost use Rattle.bayou_connect.specs.Listing.{AreListed, do_follow, is_behind, last_key as key_last, line_of_row, standing_told};
+ghost use Rattle.bayou_streams.specs.Account.{TakesBytes, account};
 
 use crate::anywhere::anywhere;
 use crate::asking::Attempt;
@@ -46,15 +51,38 @@ enum Paged {
     Untold(Told),
 }
 
+// Whether the key comes behind that one, if there is one.
+fn comes_behind(last: Option<&Key>, key: &Key) -> bool
+    ensures { result ≡ is_behind (option_copied last.entry) key.now }
+{
+    match last {
+        Some(last) => *last < *key,
+        None => true,
+    }
+}
+
+// Whether the key begins so.
+fn begins(prefix: &Prefix, key: &Key) -> bool
+    ensures { result ≡ starts_with nat_eq key.now prefix.now }
+{
+    let (key, prefix) = (key.as_str().as_bytes(), prefix.as_str().as_bytes());
+    key.starts_with(prefix)
+}
+
+// Whether the key comes behind that one, if there is one, and begins so.
+fn is_next(prefix: &Prefix, last: Option<&Key>, key: &Key) -> bool
+    ensures { result ≡ (is_behind (option_copied last.entry) key.now && starts_with nat_eq key.now prefix.now) }
+{
+    comes_behind(last, key) && begins(prefix, key)
+}
+
 // Whether the rows begin so, and come one after another behind this key, if there is one.
-fn follow(prefix: &Prefix, after: Option<&Key>, rows: &[(Key, Value)]) -> bool {
+fn follow(prefix: &Prefix, after: Option<&Key>, rows: &[(Key, Value)]) -> bool
+    ensures { result ≡ do_follow prefix.now (option_copied after.entry) rows.now }
+{
     let mut last = after;
     for row in rows {
-        let comes_after = match last {
-            Some(last) => *last < row.0,
-            None => true,
-        };
-        if !comes_after || !row.0.as_str().starts_with(prefix.as_str()) {
+        if !is_next(prefix, last, &row.0) {
             return false;
         }
         last = Some(&row.0);
@@ -97,7 +125,9 @@ impl Rows {
     }
 
     // The last key that was told.
-    fn last_key(&self) -> Option<Key> {
+    fn last_key(&self) -> Option<Key>
+        ensures { result ≡ key_last self.now.each.items }
+    {
         match self.each.last() {
             Some(row) => Some(row.0.copy()),
             None => None,
@@ -115,8 +145,9 @@ impl Rows {
     // Puts the rows of a page behind the others, and tells whether more are left; or nothing where they don't follow those, or there was room for more:
     // then what came is none that was asked for.
     fn add(&mut self, prefix: &Prefix, page: Page) -> Result<Option<bool>, AllocError>
-        ensures { IfOk result (λ more. MatchOption more (self.new ≡ self.old)
+        ensures added { IfOk result (λ more. MatchOption more (self.new ≡ self.old)
             (λ more. (self.new.each.items ≡ self.old.each.items ++ page.rows.items) × (self.new.vector ≡ page.vector) × (more ≡ page.more))) }
+        ensures listed { AreListed prefix.now self.old.each.items → IfOk result (λ more. AreListed prefix.now self.new.each.items) }
     {
         let rows = page.rows.as_slice();
         let last = self.last_key();
@@ -140,7 +171,9 @@ impl Desk {
         first: Page,
         may_mix: bool,
         rows: &mut Rows,
-    ) -> Result<Paged, ConnectFault> {
+    ) -> Result<Paged, ConnectFault>
+        ensures { AreListed prefix.now rows.old.each.items → IfOk result (λ paged. AreListed prefix.now rows.new.each.items) }
+    {
         let at = self.store.asked_last();
         let mut more = rows.add(prefix, first)?;
         for _ in 0..=MAX_PAGES {
@@ -172,7 +205,9 @@ impl Desk {
         rt: &T,
         who: SessionId,
         prefix: &Prefix,
-    ) -> Result<Result<Rows, Told>, ConnectFault> {
+    ) -> Result<Result<Rows, Told>, ConnectFault>
+        ensures { IfOk result (λ told. IfOk told (λ rows. AreListed prefix.now rows.each.items)) }
+    {
         let mut rows = Rows::none(self.alloc);
         for time in 0..=TIMES_ANEW {
             rows.begin_anew();
@@ -195,7 +230,10 @@ impl Desk {
         &mut self,
         rt: &T,
         rows: &Rows,
-    ) -> Result<Option<Beyond>, ConnectFault> {
+    ) -> Result<Option<Beyond>, ConnectFault>
+        ensures none { keeps_finals (outlook_of self.old.store.views) ≡ false → (result ≡ Ok None) × (self.new ≡ self.old) }
+        ensures same { IsSameDesk self.old self.new × (self.new.is_served ≡ self.old.is_served) }
+    {
         if rows.is_mixed || !self.store.keeps_finals() {
             return Ok(None);
         }
@@ -209,7 +247,11 @@ impl Desk {
         output: &mut Output<W>,
         row: &(Key, Value),
         beyond: &Option<Beyond>,
-    ) -> Result<(), ConnectFault> {
+    ) -> Result<(), ConnectFault>
+        ensures printed { OnOk result (TakesBytes (account W.contents output.old) (account W.contents output.new)
+            (line_of_row (standing_told (keeps_finals (outlook_of self.old.store.views)) beyond.now row.now.0) row.now)) }
+        ensures same { self.new ≡ self.old }
+    {
         let value = Some(row.1.copy());
         let line = match self.standing(beyond, &row.0) {
             None => row_line(self.alloc, &row.0, &value)?,

@@ -1,6 +1,10 @@
 //! What became of a Write, as a server tells it.
-ghost use Rattle.std.specs.Prelude.{◌≡◌, ◌&&◌, OnOk};
+ghost use Rattle.std.specs.Prelude.{◌≡◌, ◌&&◌, IfOk, OnOk};
+ghost use Rattle.bayou_connect.specs.Desks.{IsSameDesk};
+ghost use Rattle.bayou_connect.specs.Finals.{outlook_of};
+ghost use Rattle.bayou_connect.specs.Own.{KeepsOwn, own_write};
 ghost use Rattle.bayou_connect.specs.Printing.{changes_something};
+ghost use Rattle.bayou_streams.specs.Account.{Account};
 ghost use Rattle.bayou_print.specs.Connected.{became_text};
 ghost use Rattle.bayou_streams.specs.Account.{TakesBytes, account};
 
@@ -31,6 +35,7 @@ impl Desk {
         ensures printed { OnOk result (TakesBytes (account W.contents output.old) (account W.contents output.new) (became_text who.index wid placed.now)) }
         ensures served { self.new.is_served ≡ (self.old.is_served && changes_something placed.now) }
         ensures same { self.new.store ≡ self.old.store }
+        ensures desk { IsSameDesk self.old self.new }
     {
         if let Some(
             Placed {
@@ -53,7 +58,13 @@ impl Desk {
         output: &mut Output<W>,
         who: SessionId,
         made: Made,
-    ) -> Result<Option<Placed>, ConnectFault> {
+    ) -> Result<Option<Placed>, ConnectFault>
+        ensures printed { IfOk result (λ placed. (kept : Account)
+            × KeepsOwn (outlook_of self.old.store.views) (own_write made placed) (outlook_of self.new.store.views) (account W.contents output.old) kept
+            × TakesBytes kept (account W.contents output.new) (became_text who.index made.wid placed)) }
+        ensures served { IfOk result (λ placed. self.new.is_served ≡ (self.old.is_served && changes_something placed)) }
+        ensures same { IsSameDesk self.old self.new }
+    {
         let placed = match self.store.fate_at(rt, made.at, made.wid)? {
             Some(fate) => fate.placed,
             None => None,

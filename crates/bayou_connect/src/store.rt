@@ -4,6 +4,7 @@ ghost use Rattle.std.specs.Option.{option_copied};
 ghost use Rattle.bayou_base.specs.declared.limits.TheConstants.{SESSIONS as NUMBER};
 ghost use Rattle.bayou_connect.specs.Silence.{silent_at};
 ghost use Rattle.bayou_connect.specs.Faults.{IsBookFault};
+ghost use Rattle.bayou_connect.specs.Finals.{vector_read};
 ghost use Rattle.bayou_connect.specs.Keeping.{HasAsked};
 ghost use Rattle.bayou_connect.specs.Round.{turns_but_last};
 ghost use Rattle.bayou_connect.specs.Sessions.{IsOpened, kept_of, opened};
@@ -133,7 +134,9 @@ impl Store {
     }
 
     /// Its allocator.
-    pub(crate) fn alloc(&self) -> Global {
+    pub(crate) fn alloc(&self) -> Global
+        ensures { result ≡ self.now.alloc }
+    {
         self.alloc
     }
 
@@ -255,7 +258,8 @@ impl Store {
 
     // Notes what the server of this place in the list told of an operation.
     fn note(&mut self, at: usize, told: &Told)
-        ensures { (self.new.sessions ≡ self.old.sessions) × (self.new.state ≡ self.old.state) × (self.new.book ≡ self.old.book) × (self.new.accesses ≡ self.old.accesses) }
+        ensures read { self.new.read_last ≡ vector_read told.now }
+        ensures same { (self.new.sessions ≡ self.old.sessions) × (self.new.state ≡ self.old.state) × (self.new.book ≡ self.old.book) × (self.new.accesses ≡ self.old.accesses) }
     {
         self.read_last = match told {
             Told::Seen(seen) => Some(seen.vector),
@@ -268,7 +272,8 @@ impl Store {
 
     /// What the server held that answered a session last, where that was a read of a key and it is kept what is final.
     pub(crate) fn read_last(&self) -> Option<Vector>
-        ensures { self.now.views ≡ None → result ≡ None }
+        ensures none { self.now.views ≡ None → result ≡ None }
+        ensures last { self.now.views ≢ None → result ≡ self.now.read_last }
     {
         match &self.views {
             Some(_) => self.read_last,
@@ -322,7 +327,7 @@ impl Store {
         at: usize,
         wid: Wid,
     ) -> Result<Option<Fate>, ConnectFault>
-        ensures { (self.new.sessions ≡ self.old.sessions) × (self.new.state ≡ self.old.state) × (self.new.book ≡ self.old.book) }
+        ensures { (self.new.sessions ≡ self.old.sessions) × (self.new.state ≡ self.old.state) × (self.new.book ≡ self.old.book) × (self.new.views ≡ self.old.views) }
     {
         let (alloc, time) = (self.alloc, self.timeout_seconds);
         let Some(access) = self.accesses.get_mut(at) else {
@@ -369,6 +374,7 @@ impl Store {
             return Ok(Some(Holds {
                 vector: known.vector,
                 limit: Some(known.limit),
+                without: known.without,
             }));
         }
         let told = link.vector(alloc);
@@ -377,6 +383,7 @@ impl Store {
         Ok(vector.map(|vector| Holds {
             vector,
             limit: None,
+            without: None,
         }))
     }
 

@@ -1,6 +1,7 @@
 -- When nothing can come before a Write any more, as far as servers told what they held: this project's own. Of messages the same is known as
 -- stability (Birman), and the least of all views as the minimum of a matrix clock (Wuu and Bernstein 1984).
-use Rattle.std.specs.Prelude.{◌≡◌, ℕ, ◌<◌, ◌≤◌, ◌++◌, ◌∷◌, List, All, slice_index}
+use Rattle.std.specs.Prelude.{◌≡◌, ℕ, ◌<◌, ◌≤◌, ◌+◌, ◌++◌, ◌∷◌, List, All, Some, slice_get, slice_index, true}
+use Rattle.bayou_base.specs.Order.{is_before}
 use Rattle.bayou_base.specs.declared.wid.Wid.{Wid}
 use Rattle.bayou_base.specs.Vector.{Covers}
 use Rattle.bayou_lang.specs.declared.write.Write.{Write}
@@ -26,6 +27,10 @@ pub record IsKnownFront (count : ℕ) (views : ℕ → List ℕ) (writes first :
   pub order : writes ≡ first ++ later
   pub known : All (λ write. IsKnown count views write.wid) first
   pub longest : (next : Write) (others : List Write) → later ≡ next ∷ others → ¬ IsKnown count views next.wid
+
+-- Each of the Writes comes before the next one by its stamp: they are in stamp order, and no two have one stamp.
+abbrev pub AreRising : List Write → Type 0
+AreRising writes = (place : ℕ) (one next : Write) → slice_get writes place ≡ Some one → slice_get writes (place + 1) ≡ Some next → is_before one.stamp next.stamp ≡ true
 
 -- In stamp order the database begins with these Writes, each server is known to hold each of them, and the next one, if there is one, isn't
 -- known so: it is the longest such beginning.

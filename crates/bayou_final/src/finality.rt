@@ -2,7 +2,7 @@
 ghost use Rattle.std.specs.Prelude.{◌≡◌, ◌≤◌, ◌<◌, ℕ, List, IsTrue, ◌↔◌, Option, None, Some, false, true, length, replicate, slice_get, take};
 ghost use Rattle.bayou_base.specs.declared.limits.TheConstants.{SERVERS as NUMBER};
 ghost use Rattle.bayou_base.specs.Vector.{Covers, Dominates, joined};
-ghost use Rattle.bayou_final.specs.Known.{IsKnownFront};
+ghost use Rattle.bayou_final.specs.Known.{AreRising, IsKnownFront};
 ghost use Rattle.bayou_final.specs.Views.{AreChosen, AreHeard, heard_by, heard_with};
 ghost use Rattle.bayou_lang.specs.Writes.{raised_by};
 
@@ -105,22 +105,41 @@ impl Finality {
     /// Goes on from what is known to be final, by the Writes that a server holds beyond, in stamp order, and that told before that it holds as much as this,
     /// what is final among it: how many of the Writes, from the first on, are final too. What they tell of their servers is heard first. Of each server that view
     /// counts by which it had made no more than the server holds: what it told itself, or else what its Writes tell.
+    ///
+    /// None is where the Writes don't come in stamp order: a server that takes Writes while it sends others sends those behind, that belong before.
     pub fn go_on(&mut self, vector: &Vector, writes: &[RestingWrite]) -> usize
         ensures within { result ≤ length writes.now }
         ensures heard { (self.new.written ≡ heard_by self.old.written writes.now) × (self.new.views ≡ self.old.views) × (self.new.count ≡ self.old.count) }
         ensures front { (chosen : List (Option (List ℕ))) × AreChosen (raised_by vector.now writes.now) self.new.views self.new.written chosen
-            × ((views : ℕ → List ℕ) → AreHeard self.new.count chosen views → IsKnownFront self.new.count views writes.now (take result writes.now))
+            × (AreRising writes.now → (views : ℕ → List ℕ) → AreHeard self.new.count chosen views → IsKnownFront self.new.count views writes.now (take result writes.now))
             × (0 < result → (place : ℕ) → place < self.new.count → (view : List ℕ) × (slice_get chosen place ≡ Some (Some view))) }
+        ensures order { 0 < result → AreRising writes.now }
         ensures finals { self.new.finals ≡ raised_by self.old.finals (take result writes.now) }
     {
         self.written.hear_all(writes);
         let mut held = *vector;
         raise_all(&mut held, writes);
         let chosen = self.views.chosen(&self.written, &held);
-        let number = chosen.known_front(self.count, writes);
+        let number = if are_rising(writes) {
+            chosen.known_front(self.count, writes)
+        } else {
+            0
+        };
         raise_all(&mut self.finals, &writes[..number]);
         number
     }
+}
+
+// Whether each of the Writes comes before the next one by its stamp.
+fn are_rising(writes: &[RestingWrite]) -> bool
+    ensures { IsTrue result ↔ AreRising writes.now }
+{
+    for at in 1..writes.len() {
+        if !writes[at - 1].stamp().is_before(writes[at].stamp()) {
+            return false;
+        }
+    }
+    true
 }
 
 // Counts each of the Writes.

@@ -1,6 +1,6 @@
 //! What the definitions come to: each law is the contract of a function that does nothing.
 ghost use Rattle.std.specs.Prelude.{◌≡◌, ◌≤◌, ◌++◌, ℕ, List, Option, All};
-ghost use Rattle.bayou_final.specs.Known.{CountOwn, IsKnown, IsKnownBeginning, IsKnownFront};
+ghost use Rattle.bayou_final.specs.Known.{AreRising, CountOwn, IsKnown, IsKnownBeginning, IsKnownFront};
 ghost use Rattle.bayou_final.specs.Views.{AreChosen, AreHeard};
 ghost use Rattle.bayou_lang.specs.declared.write.Write.{Write};
 ghost use Rattle.bayou_lang.specs.Writes.{IsPrefixClosed, HaveDistinctWids, count_of, in_stamp_order, lacking_of};
@@ -10,6 +10,11 @@ ghost use Rattle.bayou_base.specs.declared.limits.TheConstants.{SERVERS};
 pub fn chosen_views_count_their_own()
     ensures { (count : ℕ) (vector : List ℕ) (heard others chosen : List (Option (List ℕ))) (views : ℕ → List ℕ) → count ≤ SERVERS → AreChosen vector heard others chosen → AreHeard count chosen views
         → CountOwn count views vector }
+{}
+
+/// Writes each of which comes before the next one are in stamp order.
+pub fn rising_writes_are_in_stamp_order()
+    ensures { (writes : List Write) → AreRising writes → in_stamp_order writes ≡ writes }
 {}
 
 /// A beginning of a database, in stamp order, each Write of which is known, goes on with the longest known front of what is left: the two together are the longest known

@@ -23,6 +23,12 @@ UnservedAs who (Link links.BadFrame) answer = answer ≡ Lost who
 UnservedAs who (Link (links.Refused refusal)) answer = answer ≡ Refused who refusal
 UnservedAs who (Link links.OutOfMemory) answer = answer ≡ Refused who refusals.OutOfMemory
 
+-- where a server sends no dump the run ends: for want of memory, or since the way to it failed
+abbrev pub undumped : LinkFault → FleetFault
+undumped links.OutOfMemory = fleet.Memory
+undumped (links.Refused refusals.OutOfMemory) = fleet.Memory
+undumped _ = fleet.Network
+
 -- what a server's reopening comes to by its reply; without one the run ends
 abbrev pub reopening_told : ServerId → Result (Option Wid) LinkFault → Result Recovery FleetFault
 reopening_told server (Ok adopted) = Ok (Reopened server adopted)

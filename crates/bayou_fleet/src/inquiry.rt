@@ -1,11 +1,11 @@
 //! What is asked of a run when sessions and pulls have ended.
-ghost use Rattle.std.specs.Prelude.{◌≡◌, ◌<◌, ◌≤◌, IfOk, List, vec_len};
+ghost use Rattle.std.specs.Prelude.{◌≡◌, ◌<◌, ◌≤◌, Err, IfErr, IfOk, List, Ok, vec_len};
 ghost use Rattle.bayou_base.specs.declared.limits.TheConstants.{SERVERS};
 ghost use Rattle.bayou_base.specs.declared.entry.Entry.{Entry as Filed};
 ghost use Rattle.bayou_answers.specs.declared.answer.Answer.TheVariants.{Booked, Recovered};
 ghost use Rattle.bayou_answers.specs.declared.answer.Recovery.{Recovery as Recovering};
 ghost use Rattle.bayou_fleet.specs.Closings.{AnswersClosing, AnswersQuestion, IsLogged, IsReopening};
-ghost use Rattle.bayou_fleet.specs.Refusals.{reopening_told};
+ghost use Rattle.bayou_fleet.specs.Refusals.{reopening_told, undumped};
 ghost use Rattle.bayou_fleet.specs.Servers.{InOne};
 ghost use Rattle.bayou_lang.specs.Writes.{count_of};
 ghost use Rattle.bayou_log.specs.Listing.{listing_of};
@@ -56,9 +56,12 @@ fn recovery_of(
     }
 }
 
-// What a server sends of what it holds.
-fn sent_over(alloc: Global, link: &mut SocketLink) -> Result<Vec<RestingWrite>, FleetFault> {
-    match link.dump(alloc) {
+// What a server sends of what it holds; without it the run ends.
+fn dump_of(told: Result<Vec<RestingWrite>, LinkFault>) -> Result<Vec<RestingWrite>, FleetFault>
+    ensures sent { IfOk told (λ writes. result ≡ Ok writes) }
+    ensures unsent { IfErr told (λ fault. result ≡ Err (undumped fault)) }
+{
+    match told {
         Ok(writes) => Ok(writes),
         Err(LinkFault::OutOfMemory | LinkFault::Refused(Refusal::OutOfMemory)) => {
             Err(FleetFault::Memory)
@@ -102,7 +105,7 @@ impl Inquiry {
         let mut dumps = Vec::new(alloc);
         for at in 0..self.count {
             let link = &mut self.links[usize::from(at)];
-            dumps.push(sent_over(alloc, link)?)?;
+            dumps.push(dump_of(link.dump(alloc))?)?;
         }
         Ok(dumps)
     }

@@ -174,6 +174,7 @@ where
     T: Threads + Wait + Send + Sync,
     requires blank { IsBlankOf blank L.name L.parts desks }
     requires whose { begun_of server.core ≡ L.begun }
+    ensures { IfOk result (λ kept. (kept.dump ≡ begun_of server.core) × (kept.books ≡ begun_of server.core)) }
 {
     let begun = Begun::of(&server);
     let Ok((node, desks)) = Node::<D, L>::new(alloc, blank, server, desks) else {
@@ -197,6 +198,7 @@ pub(crate) fn keep_named<D, T>(
 where
     D: Device + Send + Sync,
     T: Threads + Wait + Send + Sync,
+    ensures { IfOk result (λ kept. (kept.dump ≡ begun_of server.core) × (kept.books ≡ begun_of server.core)) }
 {
     let blank = Blank::new(u64::from(desks));
     keep::<D, Brand, T>(rt, alloc, blank, server, desks, post)

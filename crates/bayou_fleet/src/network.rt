@@ -179,6 +179,7 @@ where
     D: Device + Send + Sync + 's,
     K: Ledgers + Send + Sync,
     T: Threads + Wait + Sockets + Send + Sync,
+    ensures { IfOk result (λ threads. length threads.items ≡ length servers.items) }
 {
     let mut threads = VecDeque::new(alloc);
     for server in servers {

@@ -2,6 +2,7 @@
 ghost use Rattle.std.specs.Prelude.{◌≡◌, ◌+◌, ◌≤◌, All, IfOk, length, vec_capacity, vec_len};
 ghost use Rattle.bayou_answers.specs.declared.answer.Answer.TheVariants.{Exchanged};
 ghost use Rattle.bayou_answers.specs.declared.answer.Transfer.{Transfer as Told};
+ghost use Rattle.bayou_answers.specs.declared.answer.Transfer.TheVariants.{NotRunning};
 
 use crate::links::reach;
 use crate::mailbox::Mailbox;
@@ -20,7 +21,9 @@ fn pull_one<T: Sockets + Wait>(
     mailboxes: &[Mailbox],
     addresses: &[SocketAddr],
     pull: Pull,
-) -> Transfer {
+) -> Transfer
+    ensures { length addresses.now ≤ pull.from.index → result ≡ NotRunning }
+{
     let at = usize::from(pull.from.index);
     if at >= addresses.len() {
         return Transfer::NotRunning;

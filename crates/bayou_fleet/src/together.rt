@@ -1,7 +1,11 @@
 //! What is done side by side in a phase: sessions, each in its order, and pulls in theirs.
-ghost use Rattle.std.specs.Prelude.{◌≡◌, ◌++◌, IfOk, OnOk, vec_len};
+ghost use Rattle.std.specs.Prelude.{◌≡◌, ◌++◌, IfOk, List, Ok, OnOk, vec_len};
+ghost use Rattle.std.specs.List.{AllZip};
 ghost use Rattle.std.specs.Thread.{IsSend};
+ghost use Rattle.bayou_answers.specs.declared.answer.Answer.{Answer as Told};
 ghost use Rattle.bayou_fleet.specs.Opening.{OpensEach, OpensOne};
+ghost use Rattle.bayou_fleet.specs.Operating.{IsAnswerTo};
+ghost use Rattle.bayou_fleet.specs.declared.together.Going.TheVariants.{Idle};
 
 use crate::fault::FleetFault;
 use crate::network::Network;
@@ -43,7 +47,10 @@ fn operated<K: Ledgers, T: Sockets + Wait>(
     network: &Network<K>,
     session: OpenSession<K>,
     operations: Vec<Operation>,
-) -> Done<K> {
+) -> Done<K>
+    ensures one_each { IfOk result.answers (λ answers. vec_len answers ≡ vec_len operations) }
+    ensures told { IfOk result.answers (λ answers. AllZip (IsAnswerTo session.who) operations.items answers.items) }
+{
     let mut session = session;
     let addresses = network.addresses.as_slice();
     let answers = session.operate_all(rt, alloc, &network.book, addresses, operations);
@@ -62,6 +69,7 @@ fn begin<'s, E, K, T>(
 where
     K: Ledgers + Send + Sync,
     T: Threads + Wait + Sockets + Send + Sync,
+    ensures { vec_len operations ≡ 0 → result ≡ Ok (Idle session) }
 {
     if operations.is_empty() {
         return Ok(Going::Idle(session));
@@ -149,7 +157,9 @@ fn end_one<K: Ledgers + Send + Sync, T: Threads>(
     rt: &T,
     going: Going<K>,
     answers: &mut Vec<Answer>,
-) -> Result<RunSession<K>, FleetFault> {
+) -> Result<RunSession<K>, FleetFault>
+    ensures { OnOk result ((own : List Told) × (answers.new.items ≡ answers.old.items ++ own)) }
+{
     match going {
         Going::Idle(session) => Ok(session),
         Going::Operates(thread) => {

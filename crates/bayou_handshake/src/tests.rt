@@ -116,11 +116,12 @@ fn welcome(rt: &impl Abort, line: Option<&[u8]>, index: u8) -> Welcome {
     }
 }
 
-fn known() -> Known {
+fn known(rt: &impl Abort) -> Known {
     Known {
         vector: Vector::zero(),
         limit: 100,
         digests: None,
+        without: Some(server_id(rt, 2)),
     }
 }
 
@@ -161,9 +162,9 @@ fn a_server_is_known_that_is_the_one_greeted(rt: HostRuntime) {
     for own in [None, Some(HOME)] {
         let answer = [
             Greeting::Welcome(welcome(&rt, own, 1)),
-            Greeting::Known(known()),
+            Greeting::Known(known(&rt)),
         ];
-        assert!(rt; greeted(&rt, alloc, own, &answer) == Ok(known()));
+        assert!(rt; greeted(&rt, alloc, own, &answer) == Ok(known(&rt)));
     }
 }
 
@@ -173,7 +174,7 @@ fn another_one_is_a_stranger(rt: HostRuntime) {
     let stranger = |own, theirs, index| {
         let answer = [
             Greeting::Welcome(welcome(&rt, theirs, index)),
-            Greeting::Known(known()),
+            Greeting::Known(known(&rt)),
         ];
         greeted(&rt, alloc, own, &answer)
     };

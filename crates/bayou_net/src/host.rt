@@ -1,11 +1,14 @@
 //! What connections are served by.
+ghost use Rattle.std.specs.Prelude.{◌≡◌, ◌≤◌, ◌⊎◌, ℕ, List, true};
+ghost use Rattle.std.specs.Io.KnownBytes.{Consumes, IsAtEnd};
 
 use crate::at_desk::serve;
 use crate::gate::RequestGate;
 use bayou_base::limits::READ_BYTES;
 use bayou_device::Device;
+use bayou_frames::read_piece;
 use bayou_node::{Desk, Desks, Node};
-use bayou_streams::{CountedChannel, Turn};
+use bayou_streams::CountedChannel;
 use std::alloc::Global;
 use std::io::Read;
 use std::net::{Shutdown, TcpStream};
@@ -42,11 +45,16 @@ impl<D: Device + Send + Sync, L: Desks + Send + Sync, G: RequestGate + Send + Sy
 }
 
 /// Drops what still comes, until the other end says nothing more, or the turns are spent.
-pub fn drop_rest<R: Read, W>(channel: &mut CountedChannel<R, W>) {
+pub fn drop_rest<R: Read, W>(channel: &mut CountedChannel<R, W>)
+    ensures dropped { (read : List ℕ) × Consumes (R.remaining channel.old.reader) (R.remaining channel.new.reader) read }
+    ensures ended { IsAtEnd (R.remaining channel.new.reader) ⊎ ((channel.new.read_failed ≡ true) ⊎ (channel.new.turns_left ≡ 0)) }
+    ensures turns { channel.new.turns_left ≤ channel.old.turns_left }
+    ensures other { (channel.new.writer ≡ channel.old.writer) × (channel.new.write_failed ≡ channel.old.write_failed) }
+{
     let mut piece = [0; READ_BYTES];
     loop {
-        match channel.read_turn(&mut piece) {
-            Ok(Turn::Moved(0)) | Err(_) => return,
+        match read_piece(channel, &mut piece) {
+            Ok(0) | Err(_) => return,
             Ok(_) => {}
         }
     }

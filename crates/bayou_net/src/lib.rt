@@ -6,6 +6,7 @@
 //! [`serve_with_leave`] where Writes are made only as long as there is leave, and else refused. By
 //! [`answer_offer`], [`serve_offer`], [`pull`] and [`pull_from`] a node takes part in anti-entropy (`bayou_peer`): its lock is free between two
 //! batches that it sends and between a few Writes that it takes, so that others are served meanwhile; of what it holds no more is told than that it may be behind its lock.
+//! A List or a Became, which only who greeted may ask, is answered by [`lookup_reply`].
 //!
 //! Callers owe nothing: strangers may send any bytes, and what is no request ends the connection without a reply. Want of memory is an
 //! answer, or a reply, only where a growth was refused. A program that is asked again under its tag is answered as it was, by the same reply: it
@@ -21,6 +22,7 @@ pub mod halting;
 pub mod host;
 pub mod lent;
 pub mod listening;
+pub mod lookups;
 pub mod node;
 pub mod replying;
 pub mod served;
@@ -33,6 +35,7 @@ pub use gate::{NoGate, RequestGate};
 pub use halting::{Leave, serve_with_leave};
 pub use host::{Host, drop_rest, serve_connection};
 pub use listening::{ListenFault, ListenerBroken, ListenerEnded, listen, listen_on};
+pub use lookups::{is_lookup, lookup_reply};
 pub use node::{answer_offer, pull, pull_from, serve_offer};
 pub use served::Served;
 pub use serving::serve_on;

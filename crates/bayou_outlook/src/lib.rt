@@ -12,7 +12,7 @@ pub mod outlook;
 pub mod reading;
 pub mod spelling;
 
-pub use outlook::{MAX_OWN_WRITES, Outlook, OwnWrite};
+pub use outlook::{Outlook, OwnWrite};
 pub use reading::read_outlook;
 pub use spelling::spell_outlook;
 

@@ -1,20 +1,18 @@
 //! What a client keeps of what is final.
-ghost use Rattle.std.specs.Prelude.{◌≡◌, ◌≤◌, ◌<◌, ◌++◌, ◌∷◌, ◌-◌, ◌↔◌, Bool, false, true, ◌+◌, [], IfSome, IsSome, None, Some, IfNone, OnOk, drop, length, take, slice_get};
-ghost use Rattle.bayou_base.specs.declared.limits.TheConstants.{SERVERS as NUMBER};
+ghost use Rattle.std.specs.Prelude.{◌≡◌, ◌≤◌, ◌<◌, ◌++◌, ◌∷◌, ◌-◌, ◌↔◌, Bool, false, true, ◌+◌, [], if◌then◌else◌, IfOk, IfSome, IsSome, None, Some, IfNone, OnOk, drop, length, nat_lt, take, slice_get};
+ghost use Rattle.bayou_base.specs.declared.limits.TheConstants.{MAX_OWN_WRITES as MOST, SERVERS as NUMBER};
 ghost use Rattle.bayou_base.specs.Vector.{Covers, joined};
+ghost use Rattle.bayou_final.specs.Known.{AreRising};
 ghost use Rattle.bayou_final.specs.Views.{heard_with};
 ghost use Rattle.bayou_lang.specs.Writes.{raised_by};
-ghost use Rattle.bayou_outlook.specs.declared.outlook.TheConstants.{MAX_OWN_WRITES as MOST};
 ghost use Rattle.bayou_outlook.specs.Own.{IsKeptAs, IsNews};
 
+use bayou_base::limits::MAX_OWN_WRITES;
 use bayou_base::{ServerId, Vector, Wid};
 use bayou_final::{Finality, Standing};
 use bayou_lang::RestingWrite;
 use bayou_wire::Became;
 use std::alloc::{AllocError, Global};
-
-/// How many own Writes are kept at the most. The oldest goes where there is one more.
-pub const MAX_OWN_WRITES: usize = 64;
 
 /// A Write of the client's own that it wasn't told of as final yet.
 #[derive(Clone, Copy, Debug, PartialEq, Eq)]
@@ -98,6 +96,7 @@ impl Outlook {
     /// As [`Finality::go_on`].
     pub fn go_on(&mut self, vector: &Vector, writes: &[RestingWrite]) -> usize
         ensures within { result ≤ length writes.now }
+        ensures order { 0 < result → AreRising writes.now }
         ensures finals { self.new.finality.finals ≡ raised_by self.old.finality.finals (take result writes.now) }
         ensures same { self.new.own ≡ self.old.own }
     {
@@ -115,6 +114,7 @@ impl Outlook {
     /// One more own Write is kept. The oldest goes, and is given back, where there are as many as may be.
     pub fn made(&mut self, write: OwnWrite) -> Result<Option<OwnWrite>, AllocError>
         ensures kept { OnOk result (self.new.own.items ≡ drop (length self.old.own.items + 1 - MOST) self.old.own.items ++ write ∷ []) }
+        ensures gone { IfOk result (λ gone. gone ≡ (if nat_lt (length self.old.own.items) MOST then None else slice_get self.old.own.items 0)) }
         ensures same { self.new.finality ≡ self.old.finality }
     {
         let gone = if self.own.len() >= MAX_OWN_WRITES {

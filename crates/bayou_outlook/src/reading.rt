@@ -1,7 +1,8 @@
 //! An outlook from the text that keeps it.
 
-use crate::outlook::{MAX_OWN_WRITES, Outlook, OwnWrite};
+use crate::outlook::{Outlook, OwnWrite};
 use crate::spelling::{FINAL, HEAD, OWN, SUM, VIEW, sum_of};
+use bayou_base::limits::MAX_OWN_WRITES;
 use bayou_base::{SERVERS, ServerId, Vector, Wid};
 use bayou_wire::{Became, ServerCount};
 use std::alloc::{AllocError, Global};

@@ -1,7 +1,8 @@
 //! Outlooks are kept and read again; other texts are none.
-use crate::outlook::{MAX_OWN_WRITES, Outlook, OwnWrite};
+use crate::outlook::{Outlook, OwnWrite};
 use crate::reading::read_outlook;
 use crate::spelling::spell_outlook;
+use bayou_base::limits::MAX_OWN_WRITES;
 use bayou_base::{SERVERS, ServerId, Vector, Wid};
 use bayou_final::Standing;
 use bayou_wire::Became;

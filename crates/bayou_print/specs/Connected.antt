@@ -1,5 +1,6 @@
 -- The lines of a person at a store: this project's own.
 use Rattle.std.specs.Prelude.{ℕ, Bool, true, false, List, [], ◌++◌, Option, None, Some, codes, decimal, sum}
+use Rattle.bayou_base.specs.declared.server.ServerId.{ServerId}
 use Rattle.bayou_base.specs.declared.value.Value.{Value}
 use Rattle.bayou_base.specs.declared.wid.Wid.{Wid}
 use Rattle.bayou_print.specs.declared.connected.Holds.{Holds}
@@ -12,16 +13,21 @@ use Rattle.bayou_wire.specs.declared.lookup.Placed.{Placed}
 abbrev pub away_text : (session : ℕ) → List ℕ
 away_text session = decimal session ++ codes " refused away\n"
 
--- how many Writes a server holds of how many that it may, if it tells that, and the end of the line
+-- that another server was left out as its journal was last made again, where one was
+abbrev pub without_text : Option ServerId → List ℕ
+without_text None = []
+without_text (Some server) = codes ", restored without server " ++ (decimal server.index ++ codes ": what was final may have changed")
+
+-- how many Writes a server holds of how many that it may, if it tells that
 abbrev pub share_text : (vector : List ℕ) → Option ℕ → List ℕ
-share_text vector None = codes "\n"
-share_text vector (Some limit) = codes " holds " ++ (decimal (sum vector) ++ (codes " of " ++ (decimal limit ++ codes "\n")))
+share_text vector None = []
+share_text vector (Some limit) = codes " holds " ++ (decimal (sum vector) ++ (codes " of " ++ decimal limit))
 
 -- what a server holds, or that it isn't reached
 abbrev pub server_text : (server servers : ℕ) → Option Holds → List ℕ
 server_text server servers None = codes "server " ++ (decimal server ++ codes " away\n")
 server_text server servers (Some held) =
-    codes "server " ++ (decimal server ++ (codes " at " ++ (counts_text servers held.vector ++ share_text held.vector held.limit)))
+    codes "server " ++ (decimal server ++ (codes " at " ++ (counts_text servers held.vector ++ (share_text held.vector held.limit ++ (without_text held.without ++ codes "\n")))))
 
 -- a key, and what a read of it finds
 abbrev pub row_text : (key : List ℕ) → Option Value → List ℕ

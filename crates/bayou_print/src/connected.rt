@@ -1,7 +1,7 @@
 //! The lines of a person at a store.
-ghost use Rattle.std.specs.Prelude.{◌≡◌, ◌≤◌, IfOk, option_copied, string_bytes, sum};
+ghost use Rattle.std.specs.Prelude.{◌≡◌, ◌≤◌, IfOk, option_copied, string_bytes};
 ghost use Rattle.bayou_base.specs.declared.limits.TheConstants.{SERVERS};
-ghost use Rattle.bayou_print.specs.Connected.{away_text, became_text, dumped_text, mixed_text, row_text, rows_text, seat_text, server_text};
+ghost use Rattle.bayou_print.specs.Connected.{away_text, became_text, dumped_text, mixed_text, row_text, rows_text, seat_text, server_text, without_text};
 
 use crate::printed::{Counts, found};
 use bayou_base::{Key, ServerId, SessionId, Value, Vector, Wid};
@@ -22,22 +22,26 @@ pub fn away_line(alloc: Global, session: SessionId) -> Result<String, AllocError
     format!(in alloc; "{session} refused away\n")
 }
 
-/// What a server tells that it holds, and how many Writes it may hold, if it tells that.
+/// What a server tells that it holds, and how many Writes it may hold, if it tells that, and without whom its journal was last made again, if another
+/// server was left out.
 #[derive(Clone, Copy, Debug, PartialEq, Eq)]
 pub struct Holds {
     pub vector: Vector,
     pub limit: Option<u32>,
+    pub without: Option<ServerId>,
 }
 
-// How many Writes a vector counts.
-fn sum_of(vector: &Vector) -> u32
-    ensures { result ≡ sum vector.now }
+// That a server was left out as a journal was made again, where one was.
+fn without_words(alloc: Global, without: Option<ServerId>) -> Result<String, AllocError>
+    ensures { IfOk result (λ words. string_bytes words ≡ without_text without) }
 {
-    let mut sum: u32 = 0;
-    for count in vector.counts() {
-        sum += *count;
+    match without {
+        None => Ok(String::new(alloc)),
+        Some(server) => {
+            let server = server.index;
+            format!(in alloc; ", restored without server {server}: what was final may have changed")
+        }
     }
-    sum
 }
 
 /// The line of what a server holds, or that it isn't reached.
@@ -53,13 +57,18 @@ pub fn server_line(
     let server = server.index;
     match held {
         None => format!(in alloc; "server {server} away\n"),
-        Some(Holds { vector, limit }) => {
+        Some(held) => {
+            let vector = &held.vector;
             let counts = Counts { vector, servers };
-            match limit {
-                None => format!(in alloc; "server {server} at {counts}\n"),
+            let without = without_words(alloc, held.without)?;
+            let without = without.as_str();
+            match held.limit {
+                None => format!(in alloc; "server {server} at {counts}{without}\n"),
                 Some(limit) => {
-                    let sum = sum_of(vector);
-                    format!(in alloc; "server {server} at {counts} holds {sum} of {limit}\n")
+                    let sum = vector.total();
+                    format!(in alloc;
+                        "server {server} at {counts} holds {sum} of {limit}{without}\n"
+                    )
                 }
             }
         }

@@ -2,7 +2,7 @@
 use Rattle.std.specs.Prelude.{◌≡◌, ◌≢◌, ℕ, Option, None, Some}
 use Rattle.bayou_journal.specs.declared.careful.Damage.{Damage}
 use Rattle.bayou_serve.specs.declared.fault.ServeFault.{ServeFault}
-use Rattle.bayou_serve.specs.declared.fault.ServeFault.TheVariants.{NotOpened, Missing, Present, Device, Damaged, NotAJournal, OtherServer, BadRecord, Gap, LogFull, OwnLost, Lost, MarkFailed, OtherStore, NotALabel, NotRestored, Memory, Port, NoDescriptor, Output}
+use Rattle.bayou_serve.specs.declared.fault.ServeFault.TheVariants.{NotOpened, Missing, Present, Device, Damaged, NotAJournal, OtherServer, BadRecord, Gap, LogFull, OwnLost, Lost, MarkFailed, OtherStore, NotALabel, LeftOutFailed, NotRestored, Memory, Port, NoDescriptor, Output}
 use Rattle.bayou_serve.specs.declared.fault.Unrestored.TheVariants as why
 use Rattle.bayou_serve.specs.declared.plan.Beginning.{Beginning}
 use Rattle.bayou_serve.specs.declared.plan.Beginning.TheVariants.{GoOn}
@@ -73,6 +73,7 @@ MayEndStart beginning Lost = ⊥
 MayEndStart beginning MarkFailed = ⊥
 MayEndStart beginning (OtherStore name) = ⊥
 MayEndStart beginning NotALabel = ⊥
+MayEndStart beginning LeftOutFailed = ⊥
 MayEndStart beginning (NotRestored why) = ⊥
 MayEndStart beginning Port = ⊥
 MayEndStart beginning NoDescriptor = ⊥

@@ -8,10 +8,12 @@ pub mod Losing
 pub mod Marks
 pub mod News
 pub mod Receiving
+pub mod Pacing
 pub mod Remade
 pub mod Straying
 pub mod Told
 pub mod Visits
+pub mod Ways
 pub mod Words
 pub mod Greeting
 pub mod HeldDigests

@@ -10,7 +10,6 @@ use Rattle.bayou_peer.specs.Pulls.{PullEnds}
 use Rattle.bayou_peer.specs.declared.fault.PullFault.{PullFault}
 use Rattle.bayou_peer.specs.declared.fault.PullFault.TheVariants.{Refused}
 use Rattle.bayou_peer.specs.declared.pulling.PullStopped.{PullStopped}
-use Rattle.bayou_peer.specs.declared.pulling.Pulled.{Pulled as Counts}
 use Rattle.bayou_serve.specs.declared.visit.Outcome.{Outcome}
 use Rattle.bayou_serve.specs.declared.visit.Visit.{Visit}
 use Rattle.bayou_serve.specs.declared.visit.Visit.TheVariants.{Away, Pulled, Failed}

@@ -1,5 +1,7 @@
 //! What a server answers who greeted it and was let in.
-ghost use Rattle.std.specs.Prelude.{◌≡◌, ◌↔◌, ◌⊎◌, true};
+ghost use Rattle.std.specs.Prelude.{◌≡◌, ◌↔◌, ◌⊎◌, ℕ, IfSome, IsSome, List, Option, true};
+ghost use Rattle.std.specs.Io.KnownBytes.{Consumes};
+ghost use Rattle.bayou_wire.specs.Greetings.{SpellsGreeting};
 ghost use Rattle.bayou_wire.specs.declared.layout.TheConstants.{KIND_DIFFERS, KIND_DIGESTS};
 
 use crate::hall::Hall;
@@ -9,7 +11,7 @@ use crate::waiting::{Most, Since, Waiting};
 use bayou_base::ServerId;
 use bayou_base::limits::GREETING_MILLISECONDS;
 use bayou_device::Device;
-use bayou_handshake::{Guest, make_known, read_greeting};
+use bayou_handshake::{Guest, StoreServer, make_known, read_greeting};
 use bayou_node::Desks;
 use bayou_streams::{CountedChannel, Patient};
 use bayou_wire::layout::{KIND_DIFFERS, KIND_DIGESTS};
@@ -18,7 +20,7 @@ use std::alloc::Global;
 use std::io::{Read, Write};
 use std::net::TcpStream;
 use std::random::RandomSource;
-use std::sync::Wait;
+use std::sync::{OnceToken, Wait};
 use std::time::Clock;
 
 // Whether a frame of this kind is about digests.
@@ -41,32 +43,52 @@ fn tell_known<D: Device, L: Desks, C: Clock, E, T: Wait>(
             vector: held.vector,
             limit: reception.limit,
             digests: Some(held.digests),
+            without: reception.without,
         },
         None => Known {
             vector: reception.node.offer(rt),
             limit: reception.limit,
             digests: None,
+            without: reception.without,
         },
     };
     make_known(alloc, known, &mut CountedChannel::new((), stream)).is_ok()
 }
 
-// The peer has other Writes of this origin: that is told. Where they are this server's own it takes no Write any more, if the peer proved to be of its
-// store; at an open one anybody may say so, and the server's own visits decide.
-fn meet_difference<D: Device, L: Desks, C: Clock, E: Write, T: Wait>(
+// Has no Write taken any more where the peer has other Writes of this origin, and that is this server, if the peer proved to be of its store; at an open
+// one anybody may say so, and the server's own visits decide.
+fn heed_difference<'a, T: Wait>(
+    rt: &T,
+    hall: &'a Hall,
+    own: &StoreServer,
+    origin: ServerId,
+) -> Option<OnceToken<'a, ()>>
+    ensures heeded { IsSome result ↔ ((origin ≡ own.now.id) × IsSome own.now.key) }
+    ensures known { IfSome result (λ token. token.of ≡ hall.entry.now.lost.id) }
+{
+    if origin == own.id && own.key.is_some() {
+        // Whoever keeps the server up marks it.
+        return Some(hall.lose(rt));
+    }
+    None
+}
+
+// The peer has other Writes of this origin: that is told, and heeded where it is this server. What comes back shows that it is.
+fn meet_difference<'a, D: Device, L: Desks, C: Clock, E: Write, T: Wait>(
     rt: &T,
     alloc: Global,
-    reception: &Reception<'_, D, L, C, E>,
+    reception: &Reception<'a, D, L, C, E>,
     peer: ServerId,
     origin: ServerId,
-) {
-    let own = reception.own.id;
-    if origin == own && reception.own.key.is_some() {
-        // Whoever keeps the server up marks it.
-        let _ = reception.hall.lose(rt);
-    }
+) -> Option<OnceToken<'a, ()>>
+    ensures heeded { IsSome result ↔ ((origin ≡ reception.now.own.now.id) × IsSome reception.now.own.now.key) }
+    ensures known { IfSome result (λ token. token.of ≡ reception.now.hall.now.lost.id) }
+{
+    let (own, hall) = (reception.own, reception.hall);
+    let heeded = heed_difference(rt, hall, own, origin);
     let (comparison, clock, teller) = (reception.comparison, reception.clock, reception.teller);
-    comparison.tell(rt, alloc, clock, teller, own, peer, origin, None);
+    comparison.tell(rt, alloc, clock, teller, own.id, peer, origin, None);
+    heeded
 }
 
 // What comes next of greetings over this reader, whose waits end by `WouldBlock`.
@@ -75,7 +97,9 @@ fn next_over<'x, C: Clock, R: Read + Drop>(
     hall: &'x Hall,
     since: &'x Since,
     reader: R,
-) -> Option<Greeting> {
+) -> Option<Greeting>
+    ensures { IfSome result (λ greeting. (rest : Option (List ℕ)) × (read : List ℕ) × Consumes (R.remaining reader) rest read × SpellsGreeting read greeting) }
+{
     let most = Most::Milliseconds(GREETING_MILLISECONDS);
     let patience = Waiting::new(clock, hall, since, most);
     read_greeting(&mut CountedChannel::new(Patient::new(reader, patience), ())).ok()?
@@ -97,7 +121,7 @@ fn hear<D: Device, L: Desks, C: Clock, E: Write, T: Wait>(
             say(alloc, &Greeting::Digested(digests), &mut channel).is_some()
         }
         Some(Greeting::Differs(origin)) => {
-            meet_difference(rt, alloc, reception, peer, origin);
+            let _ = meet_difference(rt, alloc, reception, peer, origin);
             false
         }
         _ => false,
@@ -143,7 +167,7 @@ fn answer_peer<D: Device, L: Desks, C: Clock, E: Write, T: Wait>(
         return tell_known(rt, alloc, reception, Some(held), stream)
             && answer_inquiries(rt, alloc, reception, peer, stream);
     };
-    meet_difference(rt, alloc, reception, peer, origin);
+    let _ = meet_difference(rt, alloc, reception, peer, origin);
     let told = comparison.difference(rt, theirs, peer).unwrap_or(origin);
     let mut channel = CountedChannel::new((), stream);
     if say(alloc, &Greeting::Differs(told), &mut channel).is_some() {

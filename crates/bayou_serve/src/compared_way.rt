@@ -1,5 +1,6 @@
 //! A way to a peer that holds the same Writes under the same names, as far as both hold them.
-ghost use Rattle.std.specs.Prelude.{◌≡◌};
+ghost use Rattle.std.specs.Prelude.{◌≡◌, ◌≤◌, IfSome, None, slice_index};
+ghost use Rattle.bayou_serve.specs.Ways.{IsWay};
 
 use crate::comparing::Comparison;
 use crate::greeting::{Way, way_to};
@@ -40,7 +41,9 @@ fn apart_of<T: Wait>(
     own: ServerId,
     peer: ServerId,
     theirs: &Held,
-) -> Option<Apart> {
+) -> Option<Apart>
+    ensures { IfSome result (λ apart. apart.count ≡ slice_index theirs.now.vector apart.origin.index) }
+{
     let origin = comparison.difference(rt, theirs, own)?;
     Some(Apart {
         origin,
@@ -59,7 +62,9 @@ fn search_over<'x, R: Read + Drop, W: Write + Drop, T: Wait + Clock>(
     apart: Apart,
     reader: R,
     writer: W,
-) -> Option<u32> {
+) -> Option<u32>
+    ensures { IfSome result (λ first. first ≤ apart.count) }
+{
     let patience = Waiting::new(rt, hall, since, Most::Milliseconds(GREETING_MILLISECONDS));
     let mut channel = CountedChannel::new(Patient::new(reader, patience), writer);
     let first = search(
@@ -114,7 +119,10 @@ fn compare<M: Device, E: Write, T: Wait>(
     visiting: &Visiting<'_, M, E>,
     peer: Peer,
     known: &Known,
-) -> Option<Apart> {
+) -> Option<Apart>
+    ensures untold { known.now.digests ≡ None → result ≡ None }
+    ensures count { IfSome result (λ apart. apart.count ≡ slice_index known.now.vector apart.origin.index) }
+{
     let (comparison, own) = (visiting.comparison, visiting.own.id);
     let Some(digests) = known.digests else {
         if comparison.met_untold(peer.id) {
@@ -141,7 +149,9 @@ fn meet_known<M: Device, E: Write, T: Wait + Clock>(
     peer: Peer,
     known: &Known,
     stream: &TcpStream,
-) -> Option<ServerId> {
+) -> Option<ServerId>
+    ensures { known.now.digests ≡ None → result ≡ None }
+{
     let apart = compare(rt, alloc, visiting, peer, known)?;
     Some(meet_apart(rt, alloc, visiting, peer.id, apart, stream))
 }
@@ -161,6 +171,7 @@ where
     M: Device,
     E: Write,
     T: Wait + Clock + RandomSource + Sockets,
+    ensures { IsWay visiting.now.own.now.key result }
 {
     let (own, hall) = (visiting.own, visiting.hall);
     let Some(held) = visiting.comparison.held(rt, alloc, node, visiting.teller) else {

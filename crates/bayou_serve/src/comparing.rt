@@ -1,6 +1,7 @@
 //! What a server keeps to see whether its peers hold the same Writes under the same names, and what it tells of that.
-ghost use Rattle.std.specs.Prelude.{◌≡◌, ◌≤◌, ◌<◌, ◌*◌, ◌↔◌, All, IfOk, IfSome, IsSome, length, vec_len};
+ghost use Rattle.std.specs.Prelude.{◌≡◌, ◌≢◌, ◌+◌, ◌≤◌, ◌<◌, ◌*◌, ◌↔◌, All, IfOk, IfSome, IsSome, None, Some, length, string_bytes, vec_len};
 ghost use Rattle.bayou_base.specs.declared.limits.TheConstants.{SERVERS};
+ghost use Rattle.bayou_serve.specs.Told.{difference_text, own_difference_text};
 
 use crate::held_digests::{HeldDigests, Span};
 use crate::notice::Notice;
@@ -26,6 +27,22 @@ struct Difference {
     first: AtomicU64,
 }
 
+// Where it stands what was told of this peer and this origin.
+fn place_of(peer: ServerId, origin: ServerId) -> usize
+    ensures place { result ≡ peer.index * SERVERS + origin.index }
+    ensures within { result < SERVERS * SERVERS }
+{
+    usize::from(peer.index) * SERVERS + usize::from(origin.index)
+}
+
+// From which Write on, as that is kept.
+fn first_of(kept: u64) -> Option<u64>
+    ensures none { result ≡ None ↔ kept ≡ 0 }
+    ensures known { IfSome result (λ first. first ≡ kept) }
+{
+    if kept == 0 { None } else { Some(kept) }
+}
+
 impl Difference {
     // Whether it is to be told now: at first, each minute, and as soon as it is known from which Write on.
     fn is_due<C: Clock>(&self, clock: &C, first: Option<u32>) -> bool {
@@ -37,10 +54,7 @@ impl Difference {
     }
 
     fn first(&self) -> Option<u64> {
-        match self.first.load(Ordering::SeqCst) {
-            0 => None,
-            first => Some(first),
-        }
+        first_of(self.first.load(Ordering::SeqCst))
     }
 }
 
@@ -63,7 +77,10 @@ fn difference_line(
     peer: ServerId,
     origin: ServerId,
     first: Option<u64>,
-) -> Result<String, AllocError> {
+) -> Result<String, AllocError>
+    ensures own { origin ≡ own → IfOk result (λ line. string_bytes line ≡ own_difference_text peer.index origin.index first) }
+    ensures other { origin ≢ own → IfOk result (λ line. string_bytes line ≡ difference_text peer.index origin.index first) }
+{
     let (server, of) = (peer.index, origin.index);
     match (first, origin == own) {
         (Some(first), true) => {
@@ -198,8 +215,7 @@ impl Comparison {
         origin: ServerId,
         first: Option<u32>,
     ) {
-        let place = usize::from(peer.index) * SERVERS + usize::from(origin.index);
-        let Some(difference) = self.differences.get(place) else {
+        let Some(difference) = self.differences.get(place_of(peer, origin)) else {
             return;
         };
         if difference.is_due(clock, first) {

@@ -1,11 +1,12 @@
 //! A device of which nobody is told anything before all of it is synced at once.
-ghost use Rattle.std.specs.Prelude.{◌≡◌, IfOk, OnErr, OnOk};
+ghost use Rattle.std.specs.Prelude.{◌≡◌, ◌++◌, Err, IfOk, IsErrOf, Ok, OnErr, OnOk};
 ghost use Rattle.bayou_device.specs.Device.{Rose};
 
 use bayou_device::{Device, Failed, ReadFault};
 use std::alloc::Global;
 
-/// A device whose syncs wait until it is given back, and then are one. So no clause says what it keeps before, nor what it holds. Nothing is cut of it.
+/// A device whose syncs wait until it is given back, and then are one. So nothing is said of what it keeps before; its own clauses say what comes to the
+/// device beneath. Nothing is cut of it.
 #[derive(Drop)]
 pub struct Deferred<D> {
     device: D,
@@ -60,7 +61,13 @@ impl<D: Device> Device for Deferred<D> {
 
     ghost leads_to = { λ _ _ _. Unit {0} };
 
-    fn read_all(&mut self, alloc: Global) -> Result<Vec<u8>, ReadFault> {
+    fn read_all(&mut self, alloc: Global) -> Result<Vec<u8>, ReadFault>
+        ensures bytes { D.is_modelled → IfOk result (λ bytes. bytes.items ≡ D.content self.old.device) }
+        ensures same { OnOk result (D.content self.new.device ≡ D.content self.old.device) }
+        ensures counts { OnOk result (self.new.failures ≡ self.old.failures) }
+        ensures rose { IsErrOf result ReadFault.Failed → Rose self.old.failures self.new.failures }
+        ensures memory_counts { IsErrOf result ReadFault.OutOfMemory → self.new.failures ≡ self.old.failures }
+    {
         match self.device.read_all(alloc) {
             Err(ReadFault::Failed) => {
                 self.failures = self.failures.saturating_add(1);
@@ -70,16 +77,26 @@ impl<D: Device> Device for Deferred<D> {
         }
     }
 
-    fn append(&mut self, piece: &[u8]) -> Result<(), Failed> {
+    fn append(&mut self, piece: &[u8]) -> Result<(), Failed>
+        ensures added { D.is_modelled → OnOk result (D.content self.new.device ≡ D.content self.old.device ++ piece.now) }
+        ensures counts { OnOk result (self.new.failures ≡ self.old.failures) }
+        ensures rose { OnErr result (Rose self.old.failures self.new.failures) }
+    {
         let answer = self.device.append(piece);
         counted(&mut self.failures, answer)
     }
 
-    fn sync(&mut self) -> Result<(), Failed> {
+    fn sync(&mut self) -> Result<(), Failed>
+        ensures { (result ≡ Ok tt) × (self.new ≡ self.old) }
+    {
         Ok(())
     }
 
-    fn cut(&mut self, _len: usize) -> Result<(), Failed> {
+    fn cut(&mut self, _len: usize) -> Result<(), Failed>
+        ensures refused { OnOk result ⊥ }
+        ensures same { self.new.device ≡ self.old.device }
+        ensures rose { Rose self.old.failures self.new.failures }
+    {
         counted(&mut self.failures, Err(Failed))
     }
 

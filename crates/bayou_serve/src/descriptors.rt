@@ -1,5 +1,6 @@
 //! Whether the system lets a server open as many files as it takes to serve anybody.
-ghost use Rattle.std.specs.Prelude.{◌≡◌, ◌⊎◌, IfErr};
+ghost use Rattle.std.specs.IoError.{raw_os_error};
+ghost use Rattle.std.specs.Prelude.{◌≡◌, ◌⊎◌, ◌↔◌, IfErr, Some, true};
 ghost use Rattle.bayou_serve.specs.declared.fault.ServeFault.TheVariants.{Memory, NoDescriptor};
 
 use crate::fault::ServeFault;
@@ -16,7 +17,9 @@ const NO_FILE_IN_ALL: i32 = 23;
 const NO_FILE_HERE: i32 = 24;
 
 // Whether the call failed since no more files may be open.
-fn wants_descriptor(error: &io::Error) -> bool {
+fn wants_descriptor(error: &io::Error) -> bool
+    ensures { result ≡ true ↔ ((raw_os_error error.now ≡ Some NO_FILE_IN_ALL) ⊎ (raw_os_error error.now ≡ Some NO_FILE_HERE)) }
+{
     matches!(error.raw_os_error(), Some(NO_FILE_IN_ALL | NO_FILE_HERE))
 }
 

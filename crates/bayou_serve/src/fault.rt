@@ -45,6 +45,9 @@ pub enum Unrestored {
     Device,
     #[error("no random number")]
     Random,
+    /// What tells without whom it is made again can't be kept.
+    #[error("its .without can't be written, or another process has it")]
+    LeftOut,
 }
 
 /// Why nothing is served, or no more.
@@ -90,6 +93,9 @@ pub enum ServeFault {
     /// The label can't be read or written, or is none.
     #[error("its .store can't be read or written, or says no store")]
     NotALabel,
+    /// What tells without whom it was made again can't be opened or read, or names no server.
+    #[error("its .without can't be read, or names no server")]
+    LeftOutFailed,
     #[error("not restored: {0}")]
     NotRestored(Unrestored),
     #[error("memory")]

@@ -3,6 +3,7 @@ ghost use Rattle.std.specs.Prelude.{◌≡◌, ◌↔◌, ℕ, IfOk, IfSome, IsT
 ghost use Rattle.std.specs.Io.KnownBytes.{Consumes};
 ghost use Rattle.bayou_handshake.specs.Ends.{IsKnownServer, IsLetIn};
 ghost use Rattle.bayou_serve.specs.Greeting.{MayAsk, hello_to};
+ghost use Rattle.bayou_serve.specs.Ways.{IsGreetedWay, IsWay};
 
 use crate::hall::Hall;
 use crate::peers::reach;
@@ -172,7 +173,9 @@ fn greeted_way_to<T: Clock + RandomSource + Sockets>(
     peer: Peer,
     hall: &Hall,
     held: &Option<Held>,
-) -> Option<Way> {
+) -> Option<Way>
+    ensures { IfSome result IsGreetedWay }
+{
     let Some(stream) = reach(rt, peer) else {
         return Some(Way::Away);
     };
@@ -198,7 +201,9 @@ pub(crate) fn way_to<T: Clock + RandomSource + Sockets>(
     peer: Peer,
     hall: &Hall,
     held: Option<Held>,
-) -> Way {
+) -> Way
+    ensures { IsWay own.now.key result }
+{
     for _ in 0..OLDER_AFTER {
         if let Some(way) = greeted_way_to(rt, alloc, own, peer, hall, &held) {
             return way;
@@ -211,7 +216,9 @@ pub(crate) fn way_to<T: Clock + RandomSource + Sockets>(
 }
 
 // A way to a peer that knows no greetings.
-fn older_way_to<T: Sockets>(rt: &T, peer: Peer) -> Way {
+fn older_way_to<T: Sockets>(rt: &T, peer: Peer) -> Way
+    ensures { IsWay None result }
+{
     match reach(rt, peer) {
         Some(stream) => Way::Open {
             stream,

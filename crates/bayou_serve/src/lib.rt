@@ -21,6 +21,7 @@ pub mod greeting;
 mod hall;
 pub mod held_digests;
 mod keeper;
+mod left_out;
 mod lines;
 mod lookups;
 mod marking;

@@ -1,5 +1,6 @@
 //! The other servers of the store, from which a server that lives takes what it lacks.
-ghost use Rattle.std.specs.Prelude.{◌≡◌, ◌↔◌, IfSome, IsSome, true};
+ghost use Rattle.std.specs.Prelude.{◌≡◌, ◌↔◌, ◌⊎◌, IfSome, IsSome, None, Some, false, true};
+ghost use Rattle.bayou_serve.specs.declared.visit.Visit.TheVariants.{Away};
 ghost use Rattle.bayou_serve.specs.Visits.{Visited};
 
 use crate::compared_way::compared_way_to;
@@ -119,7 +120,11 @@ fn visit<D: Device, L: Desks, M: Device, E: Write, T: Wait + Clock + RandomSourc
     peer: Peer,
     visiting: &Visiting<'_, M, E>,
     known: &mut Known,
-) -> Option<Outcome> {
+) -> Option<Outcome>
+    ensures away { IfSome result (λ outcome. outcome.visit ≡ Away → outcome.has_lost ≡ false) }
+    ensures visited { IsSome result → known.new.visits ≡ known.old.visits }
+    ensures unvisited { result ≡ None → known.new.visits.last ≡ None }
+{
     let hall = visiting.hall;
     match compared_way_to(rt, alloc, node, peer, visiting) {
         Way::Away => Some(Outcome {
@@ -186,6 +191,7 @@ where
     M: Device,
     E: Write,
     T: Wait + Clock + RandomSource + Sockets,
+    ensures { (result.visits.last ≡ None) ⊎ (result.visits.last ≡ Some Away) }
 {
     let mut known = Known {
         visits: Acquaintance::new(),

@@ -1,8 +1,10 @@
 //! How a connection is served for as long as there is patience with it.
-ghost use Rattle.std.specs.Prelude.{◌≡◌, ◌↔◌, IfSome, IsSome, None};
+ghost use Rattle.std.specs.Prelude.{◌≡◌, ◌≢◌, ◌↔◌, IfSome, IsSome, None, Some, false, slice_index, true};
 ghost use Rattle.std.proofs.Props.{props};
 ghost use Rattle.bayou_serve.specs.Greeting.{MayAsk};
 ghost use Rattle.bayou_serve.specs.Receiving.{ServedOver, first_by};
+ghost use Rattle.bayou_serve.specs.declared.lookups.Next.TheVariants.{Request};
+ghost use Rattle.bayou_serve.specs.declared.reception.Front.TheVariants.{Kind, Short};
 
 use crate::answering::answer_guest;
 use crate::comparing::Comparison;
@@ -13,6 +15,7 @@ use crate::peers::is_timed;
 use crate::rooms::{Place, Rooms};
 use crate::teller::Teller;
 use crate::waiting::{Heard, Most, Since, Told, Waiting};
+use bayou_base::ServerId;
 use bayou_base::limits::{LINGER_MILLISECONDS, MAX_WAITS, PAUSE_SECONDS, TICK_MILLISECONDS};
 use bayou_device::Device;
 use bayou_frames::ChannelFault;
@@ -44,6 +47,8 @@ pub(crate) struct Reception<'a, D, L: Desks, C, E> {
     pub(crate) own: &'a StoreServer,
     /// How many Writes it may hold.
     pub(crate) limit: u32,
+    /// Without whom its journal was last made again, if somebody was left out.
+    pub(crate) without: Option<ServerId>,
 }
 
 /// That requests of a connection may reach the node: who asks greeted, was let in and was told what is held; or the store is open. Nothing is served
@@ -147,6 +152,18 @@ pub(crate) enum Front {
     Short,
 }
 
+// What is seen of a frame of which so many bytes came, and no more in time where it is late; nothing yet, where more may come.
+fn front_of(front: [u8; 3], count: usize, is_late: bool) -> Option<Front>
+    ensures whole { count ≡ 3 → result ≡ Some (Kind (slice_index front 2)) }
+    ensures short { count ≢ 3 → is_late ≡ true → result ≡ Some Short }
+    ensures early { count ≢ 3 → is_late ≡ false → result ≡ None }
+{
+    if count == front.len() {
+        return Some(Front::Kind(front[2]));
+    }
+    if is_late { Some(Front::Short) } else { None }
+}
+
 // The front of what comes next over the connection; nothing where nothing comes in time.
 fn front_over<P: Patience, C: Clock>(clock: &C, stream: &TcpStream, patience: P) -> Option<Front> {
     let mut patience = patience;
@@ -158,14 +175,11 @@ fn front_over<P: Patience, C: Clock>(clock: &C, stream: &TcpStream, patience: P)
         }
         match stream.peek(&mut front) {
             Ok(0) => return None,
-            Ok(count) if is_begun || count == front.len() => {
-                return Some(if count == front.len() {
-                    Front::Kind(front[2])
-                } else {
-                    Front::Short
-                });
-            }
-            Ok(_) => {
+            Ok(count) => {
+                let seen = front_of(front, count, is_begun);
+                if seen.is_some() {
+                    return seen;
+                }
                 is_begun = true;
                 thread::sleep(clock, Duration::from_millis(FRONT_MILLISECONDS));
             }
@@ -248,7 +262,9 @@ impl<D: Device, L: Desks, C: Clock + RandomSource, E: Write> Reception<'_, D, L,
         admission: &Admission<'_>,
         place: &Place,
         stream: &TcpStream,
-    ) -> Next {
+    ) -> Next
+        ensures { admission.now.let_in ≡ None → result ≡ Request }
+    {
         match &admission.let_in {
             Some(_) => answer_lookups(
                 rt, alloc, self.node, admission, self.hall, self.clock, place, stream,

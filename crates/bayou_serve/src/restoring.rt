@@ -11,6 +11,7 @@ ghost use Rattle.bayou_serve.specs.Remade.{AreFromEach, IsRestoring, TakesEachOf
 use crate::fault::{ServeFault, Unrestored};
 use crate::greeting::{Way, stranger_line, way_to};
 use crate::hall::Hall;
+use crate::left_out::{forget_left_out, keep_left_out};
 use crate::lines::news_line;
 use crate::pace::Pace;
 use crate::plan::{Beginning, Peer, Plan};
@@ -220,13 +221,15 @@ fn take_from_each<D: Device, E: Write, T: Wait + Clock + RandomSource + Sockets>
     Ok(taken)
 }
 
-// Makes the journal on this device, whose name is `part`, of what was gathered and of all that each peer has, and gives it its name.
+// Makes the journal on this device, whose name is `part`, of what was gathered and of all that each peer has, has the file `without` tell who was left
+// out, and gives the journal its name.
 fn restored_on<E, T>(
     rt: &T,
     alloc: Global,
     asking: &Asking<'_, E>,
     path: &str,
     part: &str,
+    without: &str,
     device: Part,
     gathered: Gathered,
 ) -> Result<Restored, ServeFault>
@@ -241,6 +244,7 @@ where
     let mut server = made_on(rt, alloc, asking.plan, device, &gathered)?;
     drop(gathered);
     let taken = take_from_each(rt, alloc, asking, &asking.plan.peers, &mut server)?;
+    keep_left_out(rt, without, asking.plan.left_out.first().copied())?;
     give_name(rt, asking.plan, path, part, server, &taken)
 }
 
@@ -266,14 +270,15 @@ fn tell_restored<E: Write, T: Wait>(
 }
 
 /// Makes the journal of this name, which is lost, again of what the peers have, and tells how many Writes of its own the server has again, and without
-/// whom. It is made under another name, and is there under its own one whole or not at all: with all that each peer had. What a file has no clause can
-/// say, nor what a peer answers; which Writes are the server's again is [`restore`](bayou_restore::restore)'s.
+/// whom; the file `without` tells that from then on. It is made under another name, and is there under its own one whole or not at all: with all that each
+/// peer had. What a file has no clause can say, nor what a peer answers; which Writes are the server's again is [`restore`](bayou_restore::restore)'s.
 pub(crate) fn restore_journal<E, T>(
     rt: &T,
     alloc: Global,
     plan: &Plan,
     own: &StoreServer,
     path: &str,
+    without: &str,
     teller: &Teller<E>,
 ) -> Result<Restored, ServeFault>
 where
@@ -295,14 +300,16 @@ where
     let Ok(device) = FileDevice::open(rt, part.as_str()) else {
         return Err(ServeFault::NotRestored(Unrestored::NotOpened));
     };
-    match restored_on(rt, alloc, &asking, path, part.as_str(), device, gathered) {
+    let part = part.as_str();
+    match restored_on(rt, alloc, &asking, path, part, without, device, gathered) {
         Ok(restored) => {
             tell_restored(rt, alloc, plan, restored, teller);
             Ok(restored)
         }
         Err(fault) => {
             // Nothing of it is of any use; what can't be removed is emptied the next time.
-            let _ = fs::remove_file(rt, part.as_str());
+            let _ = fs::remove_file(rt, part);
+            forget_left_out(rt, without);
             Err(fault)
         }
     }

@@ -128,7 +128,9 @@ impl Rollcall {
     }
 
     /// Since when they are asked.
-    pub(crate) fn since(&self) -> &Since {
+    pub(crate) fn since(&self) -> &Since
+        ensures { result.now ≡ self.now.since }
+    {
         &self.since
     }
 

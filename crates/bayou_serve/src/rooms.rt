@@ -1,4 +1,6 @@
 //! Where connections are served, so many at once, and which one goes where others wait.
+ghost use Rattle.std.specs.Prelude.{◌≡◌, ◌≢◌, ◌+◌, ◌≤◌, ◌⊎◌, ◌↔◌, Contains, IfOk, IfSome, false, true, vec_len};
+ghost use Rattle.bayou_base.specs.declared.limits.TheConstants.{CROWDED_MILLISECONDS};
 
 use crate::hall::Hall;
 use crate::waiting::{Since, is_over, milliseconds};
@@ -16,6 +18,14 @@ const CALLED: u64 = 2;
 
 /// How many milliseconds pass between two looks for a free place.
 const LOOK_MILLISECONDS: u64 = 10;
+
+// Whether the connection at a place in this state is to go now, where something came then of a request that isn't replied to, or nothing did (0): one of
+// which half a request came has a second for the rest.
+fn is_to_go(state: u64, now: u64, asked: u64) -> bool
+    ensures { result ≡ true ↔ ((state ≡ CALLED) × ((asked ≡ 0) ⊎ (asked + CROWDED_MILLISECONDS ≤ now))) }
+{
+    state == CALLED && (asked == 0 || is_over(now, asked, CROWDED_MILLISECONDS))
+}
 
 /// One place of a room, for one connection at a time.
 #[derive(Drop)]
@@ -65,8 +75,7 @@ impl Place {
     /// Whether the connection there is to go now: one of which half a request came has a second for the rest.
     pub(crate) fn is_called(&self, now: u64) -> bool {
         let asked = self.asked.load(Ordering::SeqCst);
-        let is_asking = asked > 0 && !is_over(now, asked, CROWDED_MILLISECONDS);
-        self.state.load(Ordering::SeqCst) == CALLED && !is_asking
+        is_to_go(self.state.load(Ordering::SeqCst), now, asked)
     }
 
     /// Something came from the connection there.
@@ -92,7 +101,9 @@ pub struct Room {
 
 impl Room {
     /// A room with so many places, none of them taken.
-    pub fn new(alloc: Global, places: u32) -> Result<Self, AllocError> {
+    pub fn new(alloc: Global, places: u32) -> Result<Self, AllocError>
+        ensures { IfOk result (λ room. vec_len room.places ≡ places) }
+    {
         let mut all = Vec::new(alloc);
         for _ in 0..places {
             all.push(Place::new())?;
@@ -104,12 +115,16 @@ impl Room {
     }
 
     /// Whether it has no place at all.
-    pub fn is_closed(&self) -> bool {
+    pub fn is_closed(&self) -> bool
+        ensures { result ≡ true ↔ vec_len self.now.places ≡ 0 }
+    {
         self.places.is_empty()
     }
 
-    // A free place, which is taken then.
-    fn take(&self, now: u64) -> Option<&Place> {
+    // A free place, which is taken then. Which one is free no clause can say.
+    fn take(&self, now: u64) -> Option<&Place>
+        ensures { IfSome result (λ place. Contains self.now.places.items place.now) }
+    {
         for place in self.places.iter() {
             if place.take(now) {
                 return Some(place);
@@ -137,7 +152,9 @@ impl Room {
 
     // Waits for a place, until the server ends. Whoever asks nothing for a second is called out for it at once, and behind each second of waiting
     // whoever asks nothing the longest.
-    fn wait<C: Clock>(&self, clock: &C, hall: &Hall) -> Option<&Place> {
+    fn wait<C: Clock>(&self, clock: &C, hall: &Hall) -> Option<&Place>
+        ensures { IfSome result (λ place. Contains self.now.places.items place.now) }
+    {
         let mut since = milliseconds(clock);
         let mut has_called = false;
         for _ in 0..MAX_WAITS {
@@ -169,7 +186,9 @@ impl Room {
     }
 
     /// A place for one connection, which may have to wait for it; none where too many wait, or the server ends.
-    pub fn enter<C: Clock>(&self, clock: &C, hall: &Hall) -> Option<&Place> {
+    pub fn enter<C: Clock>(&self, clock: &C, hall: &Hall) -> Option<&Place>
+        ensures { IfSome result (λ place. Contains self.now.places.items place.now) }
+    {
         if self.waiting.load(Ordering::SeqCst) == 0
             && let Some(place) = self.take(milliseconds(clock))
         {
@@ -195,7 +214,10 @@ pub struct Rooms {
 
 impl Rooms {
     /// The room of a connection that asks for an Offer first, or for something else.
-    pub fn room_of(&self, is_peer: bool) -> &Room {
+    pub fn room_of(&self, is_peer: bool) -> &Room
+        ensures peer { is_peer ≡ true → vec_len self.now.peers.places ≢ 0 → result.now ≡ self.now.peers }
+        ensures client { (is_peer ≡ false) ⊎ (vec_len self.now.peers.places ≡ 0) → result.now ≡ self.now.clients }
+    {
         if is_peer && !self.peers.is_closed() {
             return &self.peers;
         }

@@ -1,5 +1,10 @@
 //! How it is found which Write of an origin is the first that a peer has otherwise: by digests at more and more of their counts.
-ghost use Rattle.std.specs.Prelude.{◌≡◌, ◌≤◌, IfSome};
+ghost use Rattle.std.specs.Prelude.{◌≡◌, ◌≤◌, ℕ, IfSome, List, OnSome};
+ghost use Rattle.std.specs.Io.KnownBytes.{Appends, Consumes};
+ghost use Rattle.bayou_streams.specs.Written.{AppendsFront};
+ghost use Rattle.bayou_wire.specs.Greetings.{SpellsGreeting, greeting_bytes};
+ghost use Rattle.bayou_wire.specs.declared.greeting.Greeting.TheVariants.{Digested as DigestedFrame, Digests as DigestsFrame};
+ghost use Rattle.bayou_wire.specs.declared.greeting.Inquiry.{Inquiry as Asked};
 
 use crate::comparing::Comparison;
 use crate::held_digests::Span;
@@ -23,7 +28,11 @@ pub(crate) fn say<R, W: Write>(
     alloc: Global,
     greeting: &Greeting,
     channel: &mut CountedChannel<R, W>,
-) -> Option<()> {
+) -> Option<()>
+    ensures whole { OnSome result (Appends (W.contents channel.old.writer) (W.contents channel.new.writer) (greeting_bytes greeting.now)) }
+    ensures part { AppendsFront (W.contents channel.old.writer) (W.contents channel.new.writer) (greeting_bytes greeting.now) }
+    ensures other { (channel.new.reader ≡ channel.old.reader) × (channel.new.read_failed ≡ channel.old.read_failed) }
+{
     let text = encode_greeting(alloc, greeting).ok()?;
     send(channel, &text).ok()
 }
@@ -34,7 +43,11 @@ fn ask<R: Read, W: Write>(
     origin: ServerId,
     counts: ArrayVec<u32, DIGESTS_AT_ONCE>,
     channel: &mut CountedChannel<R, W>,
-) -> Option<ArrayVec<u64, DIGESTS_AT_ONCE>> {
+) -> Option<ArrayVec<u64, DIGESTS_AT_ONCE>>
+    ensures asked { AppendsFront (W.contents channel.old.writer) (W.contents channel.new.writer) (greeting_bytes (DigestsFrame (record { origin = origin; counts = counts }))) }
+    ensures told { IfSome result (λ digests. (read : List ℕ) × Consumes (R.remaining channel.old.reader) (R.remaining channel.new.reader) read
+        × SpellsGreeting read (DigestedFrame digests)) }
+{
     let inquiry = Inquiry { origin, counts };
     say(alloc, &Greeting::Digests(inquiry), channel)?;
     match read_greeting(channel) {

@@ -1,10 +1,12 @@
 //! A server that lives, from its start to its end.
-ghost use Rattle.std.specs.Prelude.{◌≡◌, ◌≤◌, ℕ, List, IfErr, IfOk, MatchResult, OnOk, true, vec_len};
+ghost use Rattle.std.specs.Prelude.{◌≡◌, ◌-◌, ◌*◌, ◌^◌, ◌≤◌, ◌↔◌, ℕ, List, IfErr, IfOk, IfSome, MatchResult, None, OnOk, min, string_bytes, true, vec_len};
 ghost use Rattle.std.specs.Thread.{IsSend};
+ghost use Rattle.bayou_base.specs.declared.limits.TheConstants.{DESKS_OF_A_PEER};
 ghost use Rattle.bayou_node.specs.Books.{IsBlankOf, begun_of};
 ghost use Rattle.bayou_print.specs.Living.{serving_text};
 ghost use Rattle.bayou_serve.specs.declared.fault.ServeFault.TheVariants.{Output as OutputFault, OwnLost};
 ghost use Rattle.bayou_serve.specs.Lived.{IsBeforeServing, PrintsLife};
+ghost use Rattle.bayou_serve.specs.Told.{damaged_text, torn_text};
 ghost use Rattle.bayou_streams.specs.Account.{TakesBytes, account};
 
 use crate::comparing::Comparison;
@@ -13,6 +15,7 @@ use crate::fault::ServeFault;
 use crate::greeting::store_server;
 use crate::hall::Hall;
 use crate::keeper::keep_up;
+use crate::left_out::look_for_left_out;
 use crate::marking::{Mark, UNMARKED, look_for_mark, lose, open_mark, put_away};
 use crate::peers::{Visiting, keep_pulling};
 use crate::plan::{Beginning, Plan};
@@ -29,13 +32,14 @@ use bayou_base::limits::{DESKS_OF_A_PEER, WAITING_CONNECTIONS};
 use bayou_device::Device;
 use bayou_greeting::StoreKey;
 use bayou_handshake::StoreServer;
+use bayou_journal::DamagedEntry;
 use bayou_key_file::{keep_label, look_for_label};
 use bayou_net::{Door, Sockets, attend, shut};
 use bayou_node::{Desk, Desks, Node};
 use bayou_print::{held_line, serving_line, settled_line, write_text};
 use bayou_server::Server;
 use bayou_streams::Output;
-use std::alloc::Global;
+use std::alloc::{AllocError, Global};
 use std::fs::{File, Files};
 use std::io::{Read, Write};
 use std::marker::Brand;
@@ -164,6 +168,7 @@ where
         plan,
         own,
         comparison,
+        journal,
         ..
     } = *life;
     let reception = Reception {
@@ -175,6 +180,7 @@ where
         comparison,
         own,
         limit: plan.habits.limit,
+        without: journal.without,
     };
     let door = Door {
         host: &reception,
@@ -271,12 +277,16 @@ where
     T: Wait + Clock + Files<File = File> + RandomSource + Sockets,
     ensures started { IfOk result (λ started. (started.server.core.id ≡ plan.now.id.index) × (started.server.core.count ≡ plan.now.servers) × (started.server.core.limit ≡ plan.now.habits.limit)) }
 {
-    let beginning = plan.habits.beginning;
+    let left_out = format!(in alloc; "{path}.without")?;
+    let mut beginning = plan.habits.beginning;
     if beginning == Beginning::Restore {
-        restore_journal(rt, alloc, plan, own, path, teller)?;
-        return start_at(rt, alloc, plan, path, Beginning::GoOn, extent);
+        restore_journal(rt, alloc, plan, own, path, left_out.as_str(), teller)?;
+        beginning = Beginning::GoOn;
     }
-    start_at(rt, alloc, plan, path, beginning, extent)
+    let without = look_for_left_out(rt, alloc, left_out.as_str(), beginning)?;
+    let mut started = start_at(rt, alloc, plan, path, beginning, extent)?;
+    started.without = without;
+    Ok(started)
 }
 
 // Waits until the peers were asked. What one has of the server that must have: else it would give names twice. A server that lost some is marked.
@@ -407,7 +417,9 @@ where
 }
 
 // How many connections of peers are served at once.
-fn desks_of_peers(plan: &Plan) -> u32 {
+fn desks_of_peers(plan: &Plan) -> u32
+    ensures { result ≡ min (DESKS_OF_A_PEER * vec_len plan.now.peers) (2 ^ 32 - 1) }
+{
     let peers = u32::try_from(plan.peers.len()).unwrap_or(u32::MAX);
     DESKS_OF_A_PEER.saturating_mul(peers)
 }
@@ -492,6 +504,26 @@ where
     print(output, line.as_str())
 }
 
+// The line of what a start dropped of the journal of this name, if anything.
+fn dropped_line(
+    alloc: Global,
+    path: &str,
+    dropped: usize,
+    entry: Option<DamagedEntry>,
+) -> Option<Result<String, AllocError>>
+    ensures none { result ≡ None ↔ (entry ≡ None) × (dropped ≡ 0) }
+    ensures damaged { IfSome entry (λ entry. IfSome result (λ made. IfOk made (λ line. string_bytes line ≡ damaged_text path.now entry))) }
+    ensures torn { entry ≡ None → IfSome result (λ made. IfOk made (λ line. string_bytes line ≡ torn_text path.now dropped)) }
+{
+    match entry {
+        Some(entry) => Some(format!(in alloc; "bayou: {path}: {entry}\n")),
+        None if dropped > 0 => Some(format!(in alloc;
+            "bayou: dropped {dropped} bytes of {path}\n"
+        )),
+        None => None,
+    }
+}
+
 // Tells what a start dropped of the journal of this name, if anything.
 fn tell_dropped<E: Write, T: Wait>(
     rt: &T,
@@ -500,14 +532,8 @@ fn tell_dropped<E: Write, T: Wait>(
     started: &Started<'_>,
     teller: &Teller<E>,
 ) {
-    let dropped = started.dropped;
-    if let Some(entry) = started.entry {
-        teller.tell_made(rt, format!(in alloc; "bayou: {path}: {entry}\n"));
-    } else if dropped > 0 {
-        teller.tell_made(
-            rt,
-            format!(in alloc; "bayou: dropped {dropped} bytes of {path}\n"),
-        );
+    if let Some(line) = dropped_line(alloc, path, started.dropped, started.entry) {
+        teller.tell_made(rt, line);
     }
 }
 
@@ -540,8 +566,18 @@ where
 {
     let path = paths.journal;
     tell_dropped(rt, alloc, path, &started, teller);
-    let Started { server, file, .. } = started;
-    let journal = Journal { path, file, extent };
+    let Started {
+        server,
+        file,
+        without,
+        ..
+    } = started;
+    let journal = Journal {
+        path,
+        file,
+        extent,
+        without,
+    };
     let Ok(listener) = TcpListener::bind(rt, plan.listen) else {
         return Err(ServeFault::Port);
     };

@@ -9,6 +9,7 @@ use crate::fault::{ServeFault, fault_of};
 use crate::plan::{Beginning, Plan};
 use crate::straying::Identity;
 use crate::watched::{Extent, Watched};
+use bayou_base::ServerId;
 use bayou_device::FileDevice;
 use bayou_journal::format::HEADER_BYTES;
 use bayou_journal::{CarefulDevice, DamagedEntry};
@@ -29,6 +30,8 @@ pub(crate) struct Started<'e> {
     pub(crate) file: Identity,
     pub(crate) dropped: usize,
     pub(crate) entry: Option<DamagedEntry>,
+    /// Without whom its journal was last made again, if somebody was left out.
+    pub(crate) without: Option<ServerId>,
 }
 
 // Whether a journal is there exactly where none is to be made.
@@ -138,6 +141,7 @@ pub(crate) fn start_at<'e, T: Files<File = File>>(
                 file: identity,
                 dropped,
                 entry,
+                without: None,
             })
         }
         Err(refused) => {

@@ -1,20 +1,24 @@
 //! Whether the journal of a server that lives is still the file that it has open, and as long as it wrote it.
-ghost use Rattle.std.specs.Prelude.{◌≡◌, None, Some};
+ghost use Rattle.std.specs.Fs.{metadata_len};
+ghost use Rattle.std.specs.IoError.{error_kind};
+ghost use Rattle.std.specs.Prelude.{◌≡◌, ◌≢◌, IfErr, IfOk, IsOkAnd, None, Some, Ok, Err, string_bytes};
+ghost use Rattle.bayou_serve.specs.declared.straying.Sight.{Sight as Seen};
 ghost use Rattle.bayou_serve.specs.Straying.{same_file, strays};
+ghost use Rattle.bayou_serve.specs.Told.{straying_text};
 
 use crate::hall::Hall;
 use crate::notice::Notice;
 use crate::peers::rest;
 use crate::teller::Teller;
 use crate::watched::{Bounds, Extent, is_as_written};
-use std::alloc::Global;
+use bayou_base::ServerId;
+use std::alloc::{AllocError, Global};
 use std::fs::{File, Files, Metadata};
 use std::io::{ErrorKind, Write};
 use std::os::unix::fs::MetadataExt;
 use std::sync::Wait;
 use std::time::Clock;
-use std::{fs, io};
-use thiserror::Error;
+use std::{fmt, fs, io};
 
 /// Which file it is, whatever its name.
 #[derive(Clone, Copy, Debug, PartialEq, Eq)]
@@ -41,14 +45,26 @@ pub struct Sight {
 }
 
 /// What became of a journal's file.
-#[derive(Clone, Copy, Debug, PartialEq, Eq, Error)]
+#[derive(Clone, Copy, Debug, PartialEq, Eq)]
 pub enum Straying {
-    #[error("it was removed")]
     Removed,
-    #[error("another file was put in its place")]
     Replaced,
-    #[error("somebody else changed it")]
     Changed,
+}
+
+impl fmt::Display for Straying {
+    ghost use Rattle.std.specs.Prelude.{Some};
+    ghost use Rattle.bayou_serve.specs.Told.{became_text};
+
+    ghost output = { λ straying. Some (became_text straying) };
+
+    fn fmt<W: fmt::Write>(&self, f: &mut fmt::Formatter<W>) -> fmt::Result {
+        match self {
+            Straying::Removed => write!(f, "it was removed"),
+            Straying::Replaced => write!(f, "another file was put in its place"),
+            Straying::Changed => write!(f, "somebody else changed it"),
+        }
+    }
 }
 
 // Whether they are one file.
@@ -80,7 +96,11 @@ pub fn straying_of(
 }
 
 // What stands under a name; an `Err` where that can't be seen.
-fn sight_of(found: io::Result<Metadata>) -> io::Result<Option<Sight>> {
+fn sight_of(found: io::Result<Metadata>) -> io::Result<Option<Sight>>
+    ensures seen { IfOk found (λ metadata. IsOkAnd result (λ seen. (sight : Seen) × (seen ≡ Some sight) × (sight.len ≡ metadata_len metadata))) }
+    ensures none { IfErr found (λ error. error_kind error ≡ ErrorKind.NotFound → result ≡ Ok None) }
+    ensures unseen { IfErr found (λ error. error_kind error ≢ ErrorKind.NotFound → result ≡ Err error) }
+{
     match found {
         Ok(found) => Ok(Some(Sight {
             file: Identity::of(&found),
@@ -91,12 +111,14 @@ fn sight_of(found: io::Result<Metadata>) -> io::Result<Option<Sight>> {
     }
 }
 
-/// The journal of a server that lives: its name, which file it is, and how long that is to be.
+/// The journal of a server that lives: its name, which file it is, how long that is to be, and without whom it was last made again, if somebody was left
+/// out.
 #[derive(Clone, Copy)]
 pub(crate) struct Journal<'s> {
     pub(crate) path: &'s str,
     pub(crate) file: Identity,
     pub(crate) extent: &'s Extent,
+    pub(crate) without: Option<ServerId>,
 }
 
 // What became of the journal, if anything did. What can't be seen is looked at again later.
@@ -104,6 +126,13 @@ fn look<T: Files<File = File>>(rt: &T, journal: Journal<'_>) -> Option<Straying>
     let before = journal.extent.bounds();
     let found = sight_of(fs::metadata(rt, journal.path)).ok()?;
     straying_of(found, journal.file, before, journal.extent.bounds())
+}
+
+// The line of what became of the journal of this name.
+fn straying_line(alloc: Global, path: &str, straying: Straying) -> Result<String, AllocError>
+    ensures { IfOk result (λ line. string_bytes line ≡ straying_text path.now straying) }
+{
+    format!(in alloc; "bayou: {path}: {straying} while it is served; no Write is taken any more\n")
 }
 
 // Tells what became of the journal of this name.
@@ -114,10 +143,7 @@ fn tell_straying<E: Write, T: Wait>(
     straying: Straying,
     teller: &Teller<E>,
 ) {
-    let line = format!(in alloc;
-        "bayou: {path}: {straying} while it is served; no Write is taken any more\n"
-    );
-    teller.tell_made(rt, line);
+    teller.tell_made(rt, straying_line(alloc, path, straying));
 }
 
 /// Looks every so many seconds whether the journal is still what the server wrote, until it ends. Where it isn't, no Write is taken from then on,

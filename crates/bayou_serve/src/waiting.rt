@@ -1,5 +1,6 @@
 //! Who says whether to wait on for what another end says.
-ghost use Rattle.std.specs.Prelude.{◌≡◌, ◌+◌, ◌*◌, ◌/◌, ◌^◌, ◌<◌, ◌≤◌, ◌↔◌, false, min, true};
+ghost use Rattle.std.specs.Duration.{as_nanos};
+ghost use Rattle.std.specs.Prelude.{◌≡◌, ◌+◌, ◌-◌, ◌*◌, ◌/◌, ◌^◌, ◌<◌, ◌≤◌, ◌↔◌, IfErr, IfOk, false, min, true};
 ghost use Rattle.bayou_base.specs.declared.limits.TheConstants.{LEAST_BYTES_A_SECOND};
 
 use crate::hall::Hall;
@@ -10,7 +11,7 @@ use bayou_streams::Patience;
 use std::io;
 use std::io::{ErrorKind, Read, Write};
 use std::sync::atomic::{AtomicU64, Ordering};
-use std::time::Clock;
+use std::time::{Clock, Duration};
 
 /// Whether so many milliseconds have passed since then.
 pub fn is_over(now: u64, since: u64, most: u64) -> bool
@@ -27,12 +28,20 @@ pub fn behind(since: u64, now: u64, bytes: u64) -> u64
     since.saturating_add(later).min(now)
 }
 
-/// The milliseconds of a clock. One that can't be read stands still.
-pub(crate) fn milliseconds<C: Clock>(clock: &C) -> u64 {
-    match clock.monotonic() {
+// The whole milliseconds of what a clock said. One that can't be read stands still.
+fn milliseconds_of(said: io::Result<Duration>) -> u64
+    ensures said { IfOk said (λ now. result ≡ min (as_nanos now / 1_000_000) (2 ^ 64 - 1)) }
+    ensures unsaid { IfErr said (λ _. result ≡ 0) }
+{
+    match said {
         Ok(now) => u64::try_from(now.as_millis()).unwrap_or(u64::MAX),
         Err(_) => 0,
     }
+}
+
+/// The milliseconds of a clock. One that can't be read stands still.
+pub(crate) fn milliseconds<C: Clock>(clock: &C) -> u64 {
+    milliseconds_of(clock.monotonic())
 }
 
 /// Since when another end says nothing, in milliseconds of a clock: since it was last replied to, or reached.

@@ -93,6 +93,7 @@ pub record IsCallOf (asked : Connection) (call : Call) : Type 0 where
   pub plan : MatchResult call.plan (IsPlanOfPlaces asked) (RefusesConnection asked)
   pub state : option_map (λ name. string_bytes name) call.state ≡ asked.state
   pub book : option_map (λ name. string_bytes name) call.book ≡ asked.book
+  pub log : option_map (λ name. string_bytes name) call.log ≡ asked.log
   pub input : option_map (λ name. string_bytes name) call.input ≡ input_name asked.input
 
 -- the name of a store is the one that a word says, if it says one

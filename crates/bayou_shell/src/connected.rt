@@ -1,5 +1,5 @@
 //! A person at a store, from the words to the exit status.
-ghost use Rattle.std.specs.Prelude.{◌≡◌, ◌≢◌, ◌⊎◌, ℕ, IfErr, IfOk, List, MatchResult, Option, option_map, string_bytes};
+ghost use Rattle.std.specs.Prelude.{◌≡◌, ◌≢◌, ◌⊎◌, ℕ, IfErr, IfOk, List, MatchResult, None, Ok, Option, false, option_map, string_bytes, true};
 ghost use Rattle.bayou_command.specs.Connect.{connection_seen};
 ghost use Rattle.bayou_command.specs.Options.{input_seen};
 ghost use Rattle.bayou_connect.specs.declared.plan.PlanFault.TheVariants.{OutOfMemory};
@@ -7,6 +7,7 @@ ghost use Rattle.bayou_shell.specs.Plans.{IsPlanOfPlaces, RefusesConnection, inp
 ghost use Rattle.bayou_shell.specs.Told.{lines_status, told_text};
 
 use crate::keyed::{key_fault_line, named_key};
+use crate::logging::{Logged, open_log};
 use crate::telling::{tell_line, told_line};
 use bayou_command::{Connecting, Source};
 use bayou_connect::{ConnectFault, Ended, Input, Names, Plan, PlanFault, connect_plan};
@@ -14,12 +15,13 @@ use bayou_greeting::StoreKey;
 use bayou_net::Sockets;
 use bayou_streams::Output;
 use std::alloc::{AllocError, Global};
-use std::fs;
 use std::fs::File;
 use std::io::{IsTerminal, Read, Write};
 use std::random::RandomSource;
 use std::sync::Wait;
+use std::sync::atomic::{AtomicBool, Ordering};
 use std::time::Clock;
+use std::{fs, io};
 
 /// What a person asked for by the words: whom to ask, or why the words make no plan, and the names of files.
 #[derive(Drop)]
@@ -28,8 +30,15 @@ pub struct Call {
     key: Option<String>,
     state: Option<String>,
     book: Option<String>,
+    log: Option<String>,
     input: Option<String>,
 }
+
+/// What is told where the log can't be opened: nothing was asked then.
+const LOG_NOT_OPENED: &str = "it can't be opened";
+
+/// What is told where a call of the log failed.
+const LOG_FAILED: &str = "a call of it failed: lines that were printed may be missing there";
 
 /// The exit status where some operation wasn't served.
 const UNSERVED: u8 = 1;
@@ -79,11 +88,13 @@ impl Call {
         ensures key { IfOk result (λ call. option_map (λ name. string_bytes name) call.key ≡ (connection_seen connecting.now).key) }
         ensures state { IfOk result (λ call. option_map (λ name. string_bytes name) call.state ≡ (connection_seen connecting.now).state) }
         ensures book { IfOk result (λ call. option_map (λ name. string_bytes name) call.book ≡ (connection_seen connecting.now).book) }
+        ensures log { IfOk result (λ call. option_map (λ name. string_bytes name) call.log ≡ (connection_seen connecting.now).log) }
         ensures input { IfOk result (λ call. option_map (λ name. string_bytes name) call.input ≡ input_name (connection_seen connecting.now).input) }
     {
         let key = kept_name(alloc, connecting.key)?;
         let state = kept_name(alloc, connecting.state)?;
         let book = kept_name(alloc, connecting.book)?;
+        let log = kept_name(alloc, connecting.log)?;
         let input = kept_name(alloc, name_of(connecting.input))?;
         let plan = Plan::new(
             alloc,
@@ -99,6 +110,7 @@ impl Call {
             key,
             state,
             book,
+            log,
             input,
         })
     }
@@ -166,6 +178,91 @@ where
     connect_plan(rt, alloc, plan, key, names, file, output, errors)
 }
 
+/// How lines ended that were logged.
+#[derive(Drop)]
+struct Logging {
+    ended: Result<Ended, ConnectFault>,
+    /// Whether a call of the log failed, so that a line may be missing there.
+    has_failed: bool,
+}
+
+// Does the lines as `connect_on` does, and adds each line that is printed to the log, if there is one.
+fn connect_logged<I, W, E, T>(
+    rt: &T,
+    alloc: Global,
+    plan: &Plan,
+    key: Option<StoreKey>,
+    names: Names<'_>,
+    name: &Option<String>,
+    log: Option<File>,
+    input: Input<I>,
+    output: &mut Output<W>,
+    errors: &mut E,
+) -> Logging
+where
+    I: Read + Drop,
+    W: Write,
+    E: Write,
+    T: Wait + Clock + RandomSource + fs::Files<File = File> + Sockets,
+{
+    let has_failed = AtomicBool::new(false);
+    let ended = match log {
+        None => connect_on(rt, alloc, plan, key, names, name, input, output, errors),
+        Some(log) => {
+            let mut logged = Output::new(Logged::new(alloc, output, log, rt, &has_failed));
+            connect_on(
+                rt,
+                alloc,
+                plan,
+                key,
+                names,
+                name,
+                input,
+                &mut logged,
+                errors,
+            )
+        }
+    };
+    let has_failed = has_failed.load(Ordering::SeqCst);
+    Logging { ended, has_failed }
+}
+
+// The exit status of what was done, once its fault is told, if it has one, and that of its log.
+fn status_told<E: Write>(
+    alloc: Global,
+    names: Names<'_>,
+    lines: Option<&str>,
+    log: Option<&str>,
+    logging: Logging,
+    errors: &mut E,
+) -> u8
+    ensures fault { IfErr logging.ended (λ _. result ≡ FAILED) }
+    ensures log { logging.has_failed ≡ true → result ≡ FAILED }
+    ensures ended { logging.has_failed ≡ false → IfOk logging.ended (λ ended. result ≡ lines_status ended) }
+{
+    if logging.has_failed {
+        tell_line(errors, told_line(alloc, log, LOG_FAILED));
+    }
+    match logging.ended {
+        Ok(_) if logging.has_failed => FAILED,
+        Ok(ended) => status_of(ended),
+        Err(fault) => {
+            tell_line(errors, fault_line(alloc, names, lines, fault));
+            FAILED
+        }
+    }
+}
+
+// The log of this name, if one is asked for.
+fn log_of<T: fs::Files<File = File>>(rt: &T, log: Option<&str>) -> io::Result<Option<File>>
+    ensures { log.entry ≡ None → result ≡ Ok None }
+{
+    match log {
+        None => Ok(None),
+        Some(path) => Ok(Some(open_log(rt, path)?)),
+    }
+}
+
 /// Does what was asked for, tells a fault, and gives the exit status.
 pub fn run_connected<I, W, E, T>(
     rt: &T,
@@ -190,6 +287,7 @@ where
         key: key_path,
         state,
         book,
+        log,
         input: name,
     } = call;
     let plan = match plan {
@@ -211,24 +309,22 @@ where
         state: state.as_deref(),
         book: book.as_deref(),
     };
-    match connect_on(
+    let log = log.as_deref();
+    let Ok(file) = log_of(rt, log) else {
+        tell_line(&mut errors, told_line(alloc, log, LOG_NOT_OPENED));
+        return FAILED;
+    };
+    let logging = connect_logged(
         rt,
         alloc,
         &plan,
         key,
         names,
         &name,
+        file,
         input,
         output,
         &mut errors,
-    ) {
-        Ok(ended) => status_of(ended),
-        Err(fault) => {
-            tell_line(
-                &mut errors,
-                fault_line(alloc, names, name.as_deref(), fault),
-            );
-            FAILED
-        }
-    }
+    );
+    status_told(alloc, names, name.as_deref(), log, logging, &mut errors)
 }

@@ -22,6 +22,7 @@ pub mod connected;
 pub mod errand;
 pub mod files;
 pub mod keyed;
+mod logging;
 pub mod net;
 pub mod program;
 mod reading;

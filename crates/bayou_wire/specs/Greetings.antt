@@ -65,7 +65,8 @@ abbrev pub proving_bytes : Proving → List ℕ
 proving_bytes given = given.proof ++ optional_bytes held_bytes given.held
 
 abbrev pub known_bytes : Known → List ℕ
-known_bytes known = vector_bytes known.vector ++ (u32_bytes known.limit ++ optional_bytes digests_bytes known.digests)
+known_bytes known =
+    vector_bytes known.vector ++ (u32_bytes known.limit ++ (optional_bytes digests_bytes known.digests ++ optional_server_bytes known.without))
 
 abbrev pub inquiry_bytes : Inquiry → List ℕ
 inquiry_bytes inquiry = inquiry.origin.index ∷ list_bytes u32_bytes inquiry.counts.items

@@ -84,6 +84,8 @@ pub struct Known {
     pub limit: u32,
     /// Of each origin the digest of all its Writes. A client isn't told them.
     pub digests: Option<Digests>,
+    /// Without whom its journal was last made again, if another server was left out: the first of them. Then what was final may have changed.
+    pub without: Option<ServerId>,
 }
 
 /// For which digests a server is asked: those of an origin's Writes at these counts.

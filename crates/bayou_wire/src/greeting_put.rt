@@ -156,7 +156,8 @@ fn put_known(out: &mut Vec<u8>, known: &Known) -> Result<(), AllocError>
 {
     put_vector(out, &known.vector)?;
     put_u32(out, known.limit)?;
-    put_optional_digests(out, &known.digests)
+    put_optional_digests(out, &known.digests)?;
+    put_optional_server(out, known.without)
 }
 
 fn put_inquiry(out: &mut Vec<u8>, inquiry: &Inquiry) -> Result<(), AllocError>

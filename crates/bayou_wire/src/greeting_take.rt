@@ -295,10 +295,14 @@ fn known_of(bytes: &[u8]) -> Option<(Known, &[u8])>
     let Some((digests, rest)) = optional_digests_of(rest) else {
         return None;
     };
+    let Some((without, rest)) = optional_server_of(rest) else {
+        return None;
+    };
     let known = Known {
         vector,
         limit,
         digests,
+        without,
     };
     Some((known, rest))
 }

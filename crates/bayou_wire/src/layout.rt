@@ -75,7 +75,7 @@ pub const KIND_ITEM: u8 = 0x15;
 pub const KIND_END: u8 = 0x16;
 
 /// Which version of the greeting is spoken.
-pub const GREETING_VERSION: u8 = 1;
+pub const GREETING_VERSION: u8 = 2;
 
 /// How many bytes the number has that each end draws at random for one greeting.
 pub const NONCE_BYTES: usize = 16;

@@ -145,3 +145,15 @@ returns-clause-key_unnamed c = refl
 pub returns-clause-key_twice : goal.returns-clause-key_twice
 unfolding clap_on_literals
 returns-clause-key_twice c = refl
+
+pub returns-clause-log : goal.returns-clause-log
+unfolding clap_on_literals
+returns-clause-log c = record { good = refl; entered = refl }
+
+pub returns-clause-log_unnamed : goal.returns-clause-log_unnamed
+unfolding clap_on_literals
+returns-clause-log_unnamed c = refl
+
+pub returns-clause-log_twice : goal.returns-clause-log_twice
+unfolding clap_on_literals
+returns-clause-log_twice c = refl

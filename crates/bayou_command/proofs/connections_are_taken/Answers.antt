@@ -55,3 +55,7 @@ returns-clause-book c byte text = record { good = ap (told InvalidValue) (lt-ltb
 pub returns-clause-key : goal.returns-clause-key
 unfolding clap_on_literals
 returns-clause-key c byte text = record { good = ap (told InvalidValue) (lt-ltb 0 (length (byte ∷ text)) (omega arith)); entered = refl }
+
+pub returns-clause-log : goal.returns-clause-log
+unfolding clap_on_literals
+returns-clause-log c byte text = record { good = ap (told InvalidValue) (lt-ltb 0 (length (byte ∷ text)) (omega arith)); entered = refl }

@@ -79,8 +79,8 @@ proving_at bytes = made (λ p. record { proof = p.0; held = p.1 }) (both (fixed_
 
 unfoldable pub known_at : List ℕ → Read Known
 known_at bytes =
-    made (λ p. record { vector = p.0; limit = p.1.0; digests = p.1.1 })
-    (both vector_at (both (number_at w32) (optional_at digests_at))) bytes
+    made (λ p. record { vector = p.0; limit = p.1.0; digests = p.1.1.0; without = p.1.1.1 })
+    (both vector_at (both (number_at w32) (both (optional_at digests_at) (named_or_at layout.NO_SERVER server_of)))) bytes
 
 unfoldable pub inquiry_at : List ℕ → Read Inquiry
 inquiry_at bytes =

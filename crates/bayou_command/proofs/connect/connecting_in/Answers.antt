@@ -12,6 +12,7 @@ returns c =
       key = c.text_if_given-2.ensures i;
       state = c.text_if_given-3.ensures i;
       book = c.text_if_given-4.ensures i;
+      log = c.text_if_given-5.ensures i;
       wait_seconds = c.number_in.ensures.value i;
       timeout_seconds = c.number_in-2.ensures.value i;
       input = c.source_in.ensures i;

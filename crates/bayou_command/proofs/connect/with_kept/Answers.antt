@@ -9,17 +9,19 @@ pub returns-clause-app : goal.returns-clause-app
 returns-clause-app c =
     let first = c.in_ok-arg.ensures.shape c.file_option.ensures.local ∙ ap (with_rule (app_of c.args.command)) c.file_option.ensures.rule in
     let second = c.in_ok-arg-2.ensures.shape c.file_option-2.ensures.local ∙ ap₂ with_rule first c.file_option-2.ensures.rule in
-    let third = c.in_ok-arg-3.ensures.shape c.number_option.ensures.local ∙ ap₂ with_rule second c.number_option.ensures.rule in
-    let fourth = c.in_ok-arg-4.ensures.shape c.number_option-2.ensures.local ∙ ap₂ with_rule third c.number_option-2.ensures.rule in
+    let third = c.in_ok-arg-3.ensures.shape c.file_option-3.ensures.local ∙ ap₂ with_rule second c.file_option-3.ensures.rule in
+    let fourth = c.in_ok-arg-4.ensures.shape c.number_option.ensures.local ∙ ap₂ with_rule third c.number_option.ensures.rule in
+    let fifth = c.in_ok-arg-5.ensures.shape c.number_option-2.ensures.local ∙ ap₂ with_rule fourth c.number_option-2.ensures.rule in
     let file : rule_of c.help.result ≡ file_rule = search rules in
     let free : c.help.result.global ≡ false = search rules in
-    IfOk-weaker c.arg-5.result _ _ (λ made h. h.shape free ∙ ap₂ with_rule fourth file) c.arg-5.ensures
+    IfOk-weaker c.arg-6.result _ _ (λ made h. h.shape free ∙ ap₂ with_rule fifth file) c.arg-6.ensures
 
 pub returns-clause-local : goal.returns-clause-local
 returns-clause-local c =
     let free : c.help.result.global ≡ false = search rules in
     let first = c.in_ok-arg.ensures.globals ∙ stays_local _ _ c.file_option.ensures.local in
     let second = c.in_ok-arg-2.ensures.globals ∙ stays_local _ _ c.file_option-2.ensures.local ∙ first in
-    let third = c.in_ok-arg-3.ensures.globals ∙ stays_local _ _ c.number_option.ensures.local ∙ second in
-    let fourth = c.in_ok-arg-4.ensures.globals ∙ stays_local _ _ c.number_option-2.ensures.local ∙ third in
-    IfOk-weaker c.arg-5.result _ _ (λ made h. h.globals ∙ stays_local _ _ free ∙ fourth) c.arg-5.ensures
+    let third = c.in_ok-arg-3.ensures.globals ∙ stays_local _ _ c.file_option-3.ensures.local ∙ second in
+    let fourth = c.in_ok-arg-4.ensures.globals ∙ stays_local _ _ c.number_option.ensures.local ∙ third in
+    let fifth = c.in_ok-arg-5.ensures.globals ∙ stays_local _ _ c.number_option-2.ensures.local ∙ fourth in
+    IfOk-weaker c.arg-6.result _ _ (λ made h. h.globals ∙ stays_local _ _ free ∙ fifth) c.arg-6.ensures

@@ -7,6 +7,11 @@ returns-in_err-taken-clause-fault g c =
     let p = err_from_is_err_and c.from_residual-in_err-taken.result c.from_residual-in_err-taken.ensures.1 in
     rw (p.1, p.2) c.in_err-taken.ensures.fault
 
+pub returns-in_err-keep_left_out-clause-fault : goal.returns-in_err-keep_left_out-clause-fault
+returns-in_err-keep_left_out-clause-fault g c =
+    let p = err_from_is_err_and c.from_residual-in_err-keep_left_out.result c.from_residual-in_err-keep_left_out.ensures.1 in
+    rw (p.1, p.2) c.in_err-keep_left_out.ensures.fault
+
 pub returns-clause-made : goal.returns-clause-made
 returns-clause-made g c =
     IfOk-weaker c.give_name.result _ _ (λ restored counts. restoring_of c.args.asking.now.plan.now c.args.gathered.writes c.in_ok-server.server.core c.take_from_each.new.server.core

@@ -242,9 +242,11 @@ known_format : IsFormat IsKnown known_bytes known_at
 unfolding known_at
 known_format = record { takes = parts.takes; again = parts.again }
   where
-    parts : IsFormat IsKnown known_bytes (made (λ (p : List ℕ × (ℕ × Option (List ℕ))). record { vector = p.0; limit = p.1.0; digests = p.1.1 }) (both vector_at (both (number_at w32) (optional_at digests_at))))
-    parts = same_format IsKnown (λ x is. (is.0, is.1.0, is.1.1)) (λ x is. (is.0, (is.1, is.2)))
-        (made_format _ (λ known. (known.vector, (known.limit, known.digests))) (λ x. refl) (λ x. refl) (both_format vector_format (both_format u32_format (optional_format digests_format))))
+    parts : IsFormat IsKnown known_bytes (made (λ (p : List ℕ × (ℕ × (Option (List ℕ) × Option ServerId))). record { vector = p.0; limit = p.1.0; digests = p.1.1.0; without = p.1.1.1 })
+        (both vector_at (both (number_at w32) (both (optional_at digests_at) (named_or_at layout.NO_SERVER server_of)))))
+    parts = same_format IsKnown (λ x is. (is.0, is.1.0, is.1.1.0)) (λ x is. (is.0, (is.1, (is.2, tt))))
+        (made_format _ (λ known. (known.vector, (known.limit, (known.digests, known.without)))) (λ x. refl) (λ x. refl)
+        (both_format vector_format (both_format u32_format (both_format (optional_format digests_format) optional_server_format))))
 
 inquiry_format : IsFormat IsInquiry inquiry_bytes inquiry_at
 unfolding inquiry_at
@@ -362,7 +364,7 @@ is_greeting_kind-true kind e =
     or_kind (greetings.List (record { need = []; prefix = []; after = None; most = 0 })) kind _ e (λ e.
     or_kind (greetings.Digested (record { items = [] })) kind _ e (λ e.
     or_kind (greetings.Differs some_server) kind _ e (λ e.
-    or_kind (greetings.Known (record { vector = []; limit = 0; digests = None })) kind _ e (λ e.
+    or_kind (greetings.Known (record { vector = []; limit = 0; digests = None; without = None })) kind _ e (λ e.
     or_kind (greetings.Welcome some_welcome) kind _ e (λ e.
     or_kind (greetings.Digests (record { origin = some_server; counts = record { items = [] } })) kind _ e (λ e.
     or_kind (greetings.Proof (record { proof = []; held = None })) kind _ e (λ e.
@@ -424,7 +426,16 @@ proving_size given is = omega (arith, length-append given.proof (optional_bytes 
 known_size : (known : Known) → IsKnown known → length (known_bytes known) ≤ 256
 known_size known is =
     let digests = optional_bytes digests_bytes known.digests in
-    omega (arith, length-append (vector_bytes known.vector) (u32_bytes known.limit ++ digests), length-append (u32_bytes known.limit) digests, length-vector_bytes known.vector, optional_digests_size known.digests is.2)
+    let without = optional_server_bytes known.without in
+    omega (
+      arith,
+      length-append (vector_bytes known.vector) (u32_bytes known.limit ++ (digests ++ without)),
+      length-append (u32_bytes known.limit) (digests ++ without),
+      length-append digests without,
+      length-vector_bytes known.vector,
+      optional_digests_size known.digests is.2,
+      optional_server_size known.without,
+    )
 
 pub greeting_is_short : (greeting : Greeting) → IsGreeting greeting → length (greeting_payload greeting) < MAX_FRAME_BYTES
 greeting_is_short (greetings.Hello hello) is = omega (arith, hello_size hello is)

@@ -5,8 +5,8 @@ use Rattle.bayou_connect.specs.declared.store.Store.{Store}
 use Rattle.bayou_connect.proofs.Going.{then_ok}
 use Rattle.bayou_connect.proofs.desk.Desk.get.Goals as goal
 
-pub returns : goal.returns
-returns g c =
+pub returns-clause-read : goal.returns-clause-read
+returns-clause-read g c =
     let desk = c.args.self.now in
     let told = c.in_ok-told.told in
     let asked = subst (λ (key : List ℕ). AsksAnywhere c.args.who (attempts.Read key) desk.first desk.rounds desk.store c.anywhere.new.store told) c.copy.ensures c.in_ok-told.ensures in

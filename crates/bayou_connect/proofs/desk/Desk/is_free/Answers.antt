@@ -6,14 +6,14 @@ use Rattle.bayou_connect.specs.declared.store.Store.{Store}
 use Rattle.bayou_streams.specs.Account.{TakesBytes, account}
 use Rattle.bayou_connect.proofs.desk.Desk.is_free.Goals as goal
 
-pub returns-then-is_other : goal.returns-then-is_other
-returns-then-is_other g c =
+pub returns-then-is_other-clause-read : goal.returns-then-is_other-clause-read
+returns-then-is_other-clause-read g c =
     let desk = c.args.self.now in
     let told = c.in_ok-told.told in
     (told, subst (λ (key : List ℕ). AsksAnywhere c.args.who (attempts.Read key) desk.first desk.rounds desk.store c.anywhere.new.store told) c.copy.ensures c.in_ok-told.ensures, c.if-is_other.ensures, refl)
 
-pub returns : goal.returns
-returns g c =
+pub returns-clause-read : goal.returns-clause-read
+returns-clause-read g c =
     let desk = c.args.self.now in
     let told = c.in_ok-told.told in
     let asked = subst (λ (key : List ℕ). AsksAnywhere c.args.who (attempts.Read key) desk.first desk.rounds desk.store c.anywhere.new.store told) c.copy.ensures c.in_ok-told.ensures in (

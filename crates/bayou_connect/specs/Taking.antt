@@ -1,0 +1,31 @@
+-- How lines are done one by one, and how all of them end: this project's own.
+use Rattle.std.specs.Prelude.{◌≡◌, ℕ, Bool, false, true, List, Option, None, Some, Ok}
+use Rattle.std.specs.Str.{IsTrimAscii}
+use Rattle.bayou_connect.specs.Reader.{TakesLine}
+use Rattle.bayou_connect.specs.Speaking.{DoesLine}
+use Rattle.bayou_connect.specs.declared.connecting.Ended.{Ended}
+use Rattle.bayou_connect.specs.declared.connecting.Ended.TheVariants.{Served, Unserved, Refused}
+use Rattle.bayou_connect.specs.declared.desk.Desk.{Desk}
+use Rattle.bayou_connect.specs.declared.doing.Became.{Became}
+use Rattle.bayou_connect.specs.declared.doing.Became.TheVariants as became
+use Rattle.bayou_connect.specs.declared.doing.Wrong.TheVariants.{Script}
+use Rattle.bayou_connect.specs.declared.lines.Next.{Next}
+use Rattle.bayou_connect.specs.declared.lines.Next.TheVariants.{Line, TooLong, End}
+use Rattle.bayou_script.specs.declared.fault.ScriptFault.TheVariants.{BadShape}
+use Rattle.bayou_streams.specs.Account.{Account}
+
+-- What becomes of the next line: nothing changes where there is none, or where it is too long.
+abbrev pub DoesOne : Next → (old new : Desk) → (before after : Account) → Became → Type 0
+DoesOne End old new before after done = (done ≡ became.Ended) × (new ≡ old) × (after ≡ before)
+DoesOne TooLong old new before after done = (done ≡ became.Wrong (Script BadShape)) × (new ≡ old) × (after ≡ before)
+DoesOne (Line line) old new before after done = (words : List ℕ) × IsTrimAscii line.items words × DoesLine words (Ok done) old new before after
+
+-- the next line is taken from what is left of the input, and done
+abbrev pub DoesNext : (left rest : Option (List ℕ)) → (old new : Desk) → (before after : Account) → Became → Type 0
+DoesNext left rest old new before after done = (next : Next) × TakesLine left rest next × DoesOne next old new before after done
+
+-- how all lines end: one couldn't be done, or else each operation was served, or one wasn't
+abbrev pub ended_as : (is_wrong is_served : Bool) → Ended
+ended_as true is_served = Refused
+ended_as false true = Served
+ended_as false false = Unserved

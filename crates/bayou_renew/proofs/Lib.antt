@@ -1,0 +1,3 @@
+mod Database
+mod Pages
+mod Made
