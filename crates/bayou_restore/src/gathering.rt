@@ -97,6 +97,13 @@ impl Gathered {
         }
     }
 
+    /// The Writes of a log, of which none is applied.
+    pub fn of(log: WriteLog) -> Self
+        ensures { result ≡ gathering_of log }
+    {
+        Gathered { log }
+    }
+
     /// How many servers there are.
     pub fn count(&self) -> u8
         ensures { result ≡ self.now.count }
