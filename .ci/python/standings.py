@@ -171,10 +171,14 @@ class Standings:
             return printed, is_killed
         for who in told:
             self.that("%s has the room" % who, person(who, "claim red blue %s\n" % who, SECONDS)[0][1], "0 became %d:1 update" % (who == "ben"))
+        begun = time.monotonic()
+        for who in told:
+            person(who, "mine\nmine\nmine\n", SECONDS)
+        whole, end = (time.monotonic() - begun) / len(told), begun + 3 * SOON
         store.turn(0)
-        for turn in range(4 * KILLS):
+        while kills <= 3 * KILLS and time.monotonic() < end:
             for who in told:
-                kills += person(who, "mine\nmine\nmine\n", chance.uniform(0.002, 0.06))[1]
+                kills += person(who, "mine\nmine\nmine\n", chance.uniform(0, 2 * whole))[1]
             time.sleep(0.05)
         for who, line in (("ann", "0 final 0:1 update"), ("ben", "0 final 1:1 merge 1")):
             end = time.monotonic() + SOON
