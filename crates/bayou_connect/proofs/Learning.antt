@@ -1,5 +1,5 @@
 -- How what is known of what is final goes on.
-use Rattle.std.proofs.Common.{◌≡◌, ◌∙◌, ℕ, List, Bool, true, false, Option, None, Some, IfSome, ap, subst, sym, take}
+use Rattle.std.proofs.Common.{◌≡◌, ◌∙◌, ℕ, List, Bool, false, Option, None, Some, IfSome, ap, subst, sym, take}
 use Rattle.std.specs.Global.{Vec}
 use Rattle.bayou_connect.specs.Finals.{HasGoneOn, HasSettled, IsNear, finals_in, own_in}
 use Rattle.bayou_final.specs.declared.finality.Finality.{Finality}

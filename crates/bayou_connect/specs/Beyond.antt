@@ -1,5 +1,5 @@
 -- Which keys may change yet: this project's own.
-use Rattle.std.specs.Prelude.{◌≡◌, ℕ, Bool, true, false, if◌then◌else◌, List, Option, None, Some}
+use Rattle.std.specs.Prelude.{◌≡◌, ℕ, Bool, if◌then◌else◌, List, Option, None, Some}
 use Rattle.std.specs.BTreeSet.{BTreeSet, contains}
 use Rattle.std.specs.Cmp.Lexicographic.{slice_cmp}
 use Rattle.std.specs.List.{list_any}
@@ -7,7 +7,7 @@ use Rattle.std.specs.Ordering.{eq_by_cmp, nat_cmp}
 use Rattle.bayou_connect.specs.declared.looking.Beyond.{Beyond}
 use Rattle.bayou_final.specs.declared.standing.Standing.{Standing}
 use Rattle.bayou_final.specs.declared.standing.Standing.TheVariants.{Tentative, Final}
-use Rattle.bayou_lang.specs.Changes.{op_key, program_writes}
+use Rattle.bayou_lang.specs.Changes.{program_writes}
 use Rattle.bayou_lang.specs.declared.write.Write.{Write}
 
 -- whether two keys are one

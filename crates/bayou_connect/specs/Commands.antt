@@ -1,5 +1,5 @@
 -- What a script's line does where lines come one by one: this project's own.
-use Rattle.std.specs.Prelude.{◌≡◌, ◌≢◌, ℕ, Bool, false, true, List, MatchBool, Option, None, Some}
+use Rattle.std.specs.Prelude.{◌≡◌, ℕ, Bool, false, true, List, MatchBool, Option, None, Some}
 use Rattle.bayou_base.specs.declared.asks.Asks.{Asks}
 use Rattle.bayou_base.specs.declared.server.ServerId.{ServerId}
 use Rattle.bayou_base.specs.declared.session.SessionId.{SessionId}
@@ -15,7 +15,6 @@ use Rattle.bayou_text.specs.declared.command.Attempt.TheVariants as said
 use Rattle.bayou_text.specs.declared.command.Command.{Command}
 use Rattle.bayou_text.specs.declared.command.Command.TheVariants as commands
 use Rattle.bayou_text.specs.declared.command.Operation.{Operation}
-use Rattle.bayou_text.specs.declared.command.Trial.{Trial}
 use Rattle.bayou_text.specs.declared.command.TrialKind.{TrialKind}
 use Rattle.bayou_text.specs.declared.command.TrialKind.TheVariants as trials
 

@@ -1,7 +1,7 @@
 -- Why no line more is done, and which file is at fault: this project's own.
 use Rattle.std.specs.Prelude.{◌≡◌, ◌⊎◌, Bool, true, false, if◌then◌else◌, List, Option, None, Some, ℕ}
 use Rattle.bayou_connect.specs.declared.fault.ConnectFault.{ConnectFault}
-use Rattle.bayou_connect.specs.declared.fault.ConnectFault.TheVariants.{Input, LinesNotOpened, Output, Memory, Random, StateNotOpened, NotAState, StateDamaged, State, OtherStore, NotALabel, Views, BookNotOpened, Book}
+use Rattle.bayou_connect.specs.declared.fault.ConnectFault.TheVariants.{Input, LinesNotOpened, Output, Memory, StateNotOpened, NotAState, StateDamaged, State, OtherStore, NotALabel, Views, BookNotOpened, Book}
 use Rattle.bayou_connect.specs.declared.lines.LineFault.{LineFault}
 use Rattle.bayou_connect.specs.declared.lines.LineFault.TheVariants as lines
 use Rattle.bayou_journal.specs.declared.careful.Damage.{Damage}

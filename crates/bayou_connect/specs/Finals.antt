@@ -1,5 +1,5 @@
 -- What servers tell of what they hold, and what a person is told of what is final: this project's own.
-use Rattle.std.specs.Prelude.{◌≡◌, ◌+◌, ◌-◌, ◌<◌, ◌≤◌, ◌==◌, ◌↔◌, ◌⊎◌, ◌++◌, ◌∷◌, [], if◌then◌else◌, ℕ, Bool, false, true, IfSome, IsSomeAnd, List, MatchBool, Option, None, Some, drop, length, nat_le, nat_lt, replicate, slice_get, sum, take}
+use Rattle.std.specs.Prelude.{◌≡◌, ◌+◌, ◌-◌, ◌<◌, ◌≤◌, ◌==◌, ◌↔◌, ◌⊎◌, ◌++◌, ◌∷◌, [], if◌then◌else◌, ℕ, Bool, false, true, IfSome, IsSomeAnd, List, MatchBool, Option, None, Some, drop, length, nat_lt, replicate, slice_get, sum, take}
 use Rattle.std.specs.Option.{option_map}
 use Rattle.bayou_base.specs.declared.refusal.Refusal.TheVariants as refusals
 use Rattle.bayou_base.specs.Vector.{Covers, Dominates, joined, raised}

@@ -1,6 +1,7 @@
 pub mod Anew
 pub mod Anywhere
 pub mod Beyond
+pub mod Claiming
 pub mod Claims
 pub mod Commands
 pub mod Desks
@@ -22,3 +23,4 @@ pub mod Silence
 pub mod Speaking
 pub mod Taking
 pub mod Viewing
+pub mod Wishing

@@ -1,5 +1,5 @@
 -- Rows of a database, as a list of them is printed: this project's own.
-use Rattle.std.specs.Prelude.{◌≡◌, ◌⊎◌, ◌++◌, ◌∷◌, ◌-◌, [], ◌&&◌, ℕ, Bool, false, true, if◌then◌else◌, List, Option, None, Some, length, nat_eq, slice_get}
+use Rattle.std.specs.Prelude.{◌≡◌, ◌⊎◌, ◌∷◌, ◌-◌, [], ◌&&◌, ℕ, Bool, false, true, if◌then◌else◌, List, Option, None, Some, length, nat_eq, slice_get}
 use Rattle.std.specs.Cmp.Lexicographic.{slice_cmp}
 use Rattle.std.specs.List.{starts_with}
 use Rattle.std.specs.Option.{option_map}
@@ -8,8 +8,17 @@ use Rattle.bayou_base.specs.declared.value.Value.{Value}
 use Rattle.bayou_connect.specs.Beyond.{standing_at}
 use Rattle.bayou_connect.specs.declared.looking.Beyond.{Beyond}
 use Rattle.bayou_final.specs.declared.standing.Standing.{Standing}
-use Rattle.bayou_print.specs.Connected.{row_text}
+use Rattle.bayou_base.specs.declared.refusal.Refusal.{Refusal}
+use Rattle.bayou_base.specs.declared.session.SessionId.{SessionId}
+use Rattle.bayou_connect.specs.Finals.{keeps_finals, outlook_of}
+use Rattle.bayou_connect.specs.Printing.{told_text}
+use Rattle.bayou_connect.specs.declared.desk.Desk.{Desk}
+use Rattle.bayou_connect.specs.declared.listing.Rows.{Rows}
+use Rattle.bayou_connect.specs.declared.told.Told.TheVariants.{Refused}
+use Rattle.bayou_print.specs.Connected.{row_text, rows_text}
+use Rattle.bayou_print.specs.declared.connected.TheConstants.{LIST_LOST}
 use Rattle.bayou_print.specs.Standing.{standing_row_text}
+use Rattle.bayou_streams.specs.Account.{Account, TakesBytes}
 
 -- a row: a key, and its value
 abbrev pub Row : Type 0
@@ -40,3 +49,28 @@ line_of_row (Some standing) row = standing_row_text row.0 (Some row.1) standing
 
 abbrev pub standing_told : (keeps_finals : Bool) → Option Beyond → (key : List ℕ) → Option Standing
 standing_told keeps_finals beyond key = if keeps_finals then Some (standing_at beyond key) else None
+
+-- the rows are printed one after another, each with how its value stands, where that is kept
+unfoldable pub PrintsRows : (keeps_finals : Bool) → Option Beyond → List Row → (before after : Account) → Type 0
+PrintsRows keeps_finals beyond [] before after = after ≡ before
+PrintsRows keeps_finals beyond (row ∷ rows) before after = (line : Account) × TakesBytes before line (line_of_row (standing_told keeps_finals beyond row.0) row)
+    × PrintsRows keeps_finals beyond rows line after
+
+-- and behind them how many there are, and what was held by the server that told them
+pub record PrintsList (keeps_finals : Bool) (servers : ℕ) (named : Option (List ℕ)) (beyond : Option Beyond) (rows : Rows) (before after : Account) : Type 0 where
+  pub line : Account
+  pub each : PrintsRows keeps_finals beyond rows.each.items before line
+  pub last : TakesBytes line after (rows_text named (length rows.each.items) rows.is_mixed servers rows.vector)
+
+-- what keys begin with that are asked for: all do where nothing is named
+abbrev pub prefix_named : Option (List ℕ) → List ℕ
+prefix_named None = []
+prefix_named (Some prefix) = prefix
+
+-- The rows whose keys begin so are printed, each key once and in order; or why they weren't told, or that they weren't.
+abbrev pub Lists : SessionId → (named : Option (List ℕ)) → (old new : Desk) → (before after : Account) → Type 0
+Lists who named old new before after =
+    ((rows : Rows) × (beyond : Option Beyond) × AreListed (prefix_named named) rows.each.items × (new.is_served ≡ old.is_served)
+    × PrintsList (keeps_finals (outlook_of new.store.views)) old.servers named beyond rows before after)
+    ⊎ ((refusal : Refusal) × (new.is_served ≡ false) × TakesBytes before after (told_text old.servers who None (Refused refusal)))
+    ⊎ ((new.is_served ≡ false) × TakesBytes before after LIST_LOST.now)

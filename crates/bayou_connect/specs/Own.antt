@@ -1,5 +1,5 @@
 -- What a person is told of own Writes: this project's own.
-use Rattle.std.specs.Prelude.{◌≡◌, ◌==◌, ◌+◌, if◌then◌else◌, ℕ, zero, suc, Bool, true, false, List, MatchBool, MatchOption, Option, None, Some, slice_get}
+use Rattle.std.specs.Prelude.{◌≡◌, ◌==◌, ◌+◌, if◌then◌else◌, ℕ, zero, suc, Bool, true, false, MatchBool, MatchOption, Option, None, Some, slice_get}
 use Rattle.std.specs.Option.{option_map}
 use Rattle.bayou_connect.specs.Finals.{HasForgotten, HasMade, HasTold, keeps_finals, own_in, told_as}
 use Rattle.bayou_connect.specs.declared.desk.Made.{Made}

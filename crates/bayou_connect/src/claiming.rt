@@ -1,16 +1,13 @@
 //! Claims, of several keys one, and what an addition came to.
-ghost use Rattle.std.specs.Prelude.{◌≡◌, ◌↔◌, IfOk, MatchBool, Some, true};
-ghost use Rattle.bayou_connect.specs.Anywhere.{AsksAnywhere, AsksAt};
+ghost use Rattle.std.specs.Prelude.{◌≡◌, ◌↔◌, ◌∷◌, ◌&&◌, IfOk, OnOk, not, true};
+ghost use Rattle.bayou_connect.specs.Claiming.{ClaimsOne, LookFree, LooksForText, LooksFree, MakesAddition, MakesClaim, TellsAdded, TellsClaim, TellsKey, TellsKeys, TellsMade, is_text as sees_text};
 ghost use Rattle.bayou_connect.specs.Desks.{IsSameSeat};
 ghost use Rattle.bayou_connect.specs.Operating.{SeesOther};
-ghost use Rattle.bayou_connect.specs.Printing.{told_text};
-ghost use Rattle.bayou_connect.specs.declared.asking.Attempt.TheVariants as attempts;
-ghost use Rattle.bayou_connect.specs.declared.told.Told.{Told as Answered};
-ghost use Rattle.bayou_streams.specs.Account.{TakesBytes, account};
+ghost use Rattle.bayou_streams.specs.Account.{account};
 
 use crate::anywhere::anywhere;
 use crate::asking::Attempt;
-use crate::desk::Desk;
+use crate::desk::{Desk, Made};
 use crate::fault::ConnectFault;
 use crate::told::Told;
 use bayou_base::{Key, Seen, SessionId, Value};
@@ -45,6 +42,26 @@ fn is_other(told: &Told, value: &Value) -> bool
     }
 }
 
+// Whether a claim is told to have done nothing: each of its keys has another value, and it isn't known what became of it.
+fn came_to_nothing(are_other: bool, is_known: bool) -> bool
+    ensures { result ≡ (are_other && not is_known) }
+{
+    are_other && !is_known
+}
+
+// Whether a text was seen.
+fn is_text(seen: &Option<Seen>) -> bool
+    ensures { result ≡ sees_text seen.now }
+{
+    match seen {
+        None => false,
+        Some(seen) => match &seen.value {
+            Some(Value::Text(_)) => true,
+            Some(Value::Num(_)) | None => false,
+        },
+    }
+}
+
 impl Desk {
     // Has the session read the key, at any server. Whether the key has another value than this; else what was told is printed.
     fn is_free<W: Write, T: Files<File = File> + Sockets + Wait + Clock>(
@@ -55,10 +72,7 @@ impl Desk {
         key: &Key,
         value: &Value,
     ) -> Result<bool, ConnectFault>
-        ensures read { IfOk result (λ is_free. (told : Answered) × AsksAnywhere who (attempts.Read key.now) self.old.first self.old.rounds self.old.store self.new.store told
-            × (is_free ≡ true ↔ SeesOther value.now told)
-            × MatchBool is_free (output.new ≡ output.old)
-            (TakesBytes (account W.contents output.old) (account W.contents output.new) (told_text self.old.servers who (Some key.now) told))) }
+        ensures read { IfOk result (LooksFree who value.now key.now self.old self.new (account W.contents output.old) (account W.contents output.new)) }
         ensures same { IsSameSeat self.old self.new }
     {
         let attempt = Attempt::Read(key.copy());
@@ -78,7 +92,10 @@ impl Desk {
         output: &mut Output<W>,
         who: SessionId,
         claim: Claim<'_>,
-    ) -> Result<bool, ConnectFault> {
+    ) -> Result<bool, ConnectFault>
+        ensures look { IfOk result (LookFree who claim.entry.value.now (claim.entry.key.now ∷ claim.entry.others.now) self.old self.new (account W.contents output.old) (account W.contents output.new)) }
+        ensures same { IsSameSeat self.old self.new }
+    {
         if !self.is_free(rt, output, who, claim.key, claim.value)? {
             return Ok(false);
         }
@@ -100,14 +117,36 @@ impl Desk {
         key: &Key,
         value: &Value,
     ) -> Result<bool, ConnectFault>
-        ensures told { IfOk result (λ is_other. (told : Answered) × AsksAt who (attempts.Read key.now) self.old.store at self.new.store told × (is_other ≡ true ↔ SeesOther value.now told)
-            × TakesBytes (account W.contents output.old) (account W.contents output.new) (told_text self.old.servers who (Some key.now) told)) }
+        ensures told { IfOk result (TellsKey who value.now at key.now self.old self.new (account W.contents output.old) (account W.contents output.new)) }
         ensures same { IsSameSeat self.old self.new }
     {
         let told = self.store.ask_at(rt, who, at, Attempt::Read(key.copy()))?;
         let is_other = is_other(&told, value);
         self.finish(output, who, &Some(key.copy()), told)?;
         Ok(is_other)
+    }
+
+    // Prints what each key of the claim has at the server of this place in the list, up to the first that has the value. Whether each has another.
+    fn tell_keys<W: Write, T: Files<File = File> + Sockets + Wait + Clock>(
+        &mut self,
+        rt: &T,
+        output: &mut Output<W>,
+        who: SessionId,
+        at: usize,
+        claim: Claim<'_>,
+    ) -> Result<bool, ConnectFault>
+        ensures told { IfOk result (TellsKeys who claim.entry.value.now at (claim.entry.key.now ∷ claim.entry.others.now) self.old self.new (account W.contents output.old) (account W.contents output.new)) }
+        ensures same { IsSameSeat self.old self.new }
+    {
+        if !self.tell_key(rt, output, who, at, claim.key, claim.value)? {
+            return Ok(false);
+        }
+        for key in claim.others {
+            if !self.tell_key(rt, output, who, at, key, claim.value)? {
+                return Ok(false);
+            }
+        }
+        Ok(true)
     }
 
     // Prints what a claim came to, by the server that accepted it: what each key has, up to the first that has the value; and that it did nothing,
@@ -119,20 +158,50 @@ impl Desk {
         who: SessionId,
         at: usize,
         claim: Claim<'_>,
-        is_told: bool,
-    ) -> Result<(), ConnectFault> {
-        if !self.tell_key(rt, output, who, at, claim.key, claim.value)? {
-            return Ok(());
-        }
-        for key in claim.others {
-            if !self.tell_key(rt, output, who, at, key, claim.value)? {
-                return Ok(());
-            }
-        }
-        if is_told {
+        is_known: bool,
+    ) -> Result<(), ConnectFault>
+        ensures { OnOk result (TellsClaim who claim.entry.value.now at (claim.entry.key.now ∷ claim.entry.others.now) is_known self.old self.new (account W.contents output.old) (account W.contents output.new)) }
+    {
+        let are_other = self.tell_keys(rt, output, who, at, claim)?;
+        let is_nothing = came_to_nothing(are_other, is_known);
+        if !is_nothing {
             return Ok(());
         }
         self.tell_nothing(output, who)
+    }
+
+    // Prints what became of a claim's Write that was accepted, and what each key has.
+    fn tell_made<W: Write, T: Files<File = File> + Sockets + Wait + Clock>(
+        &mut self,
+        rt: &T,
+        output: &mut Output<W>,
+        who: SessionId,
+        made: Made,
+        claim: Claim<'_>,
+    ) -> Result<(), ConnectFault>
+        ensures { OnOk result (TellsMade who claim.entry.value.now (claim.entry.key.now ∷ claim.entry.others.now) made self.old self.new (account W.contents output.old) (account W.contents output.new)) }
+    {
+        let placed = self.tell_outcome(rt, output, who, made)?;
+        let is_known = placed.is_some();
+        self.tell_claim(rt, output, who, made.at, claim, is_known)
+    }
+
+    // Makes the Write of a claim, and prints what it came to, where it was accepted.
+    fn make_claim<W: Write, T: Files<File = File> + Sockets + Wait + Clock>(
+        &mut self,
+        rt: &T,
+        output: &mut Output<W>,
+        who: SessionId,
+        claim: Claim<'_>,
+        program: RestingProgram,
+    ) -> Result<(), ConnectFault>
+        ensures { OnOk result (MakesClaim who claim.entry.value.now (claim.entry.key.now ∷ claim.entry.others.now) program self.old self.new (account W.contents output.old) (account W.contents output.new)) }
+    {
+        let made = self.write(rt, output, who, program)?;
+        match made {
+            None => Ok(()),
+            Some(made) => self.tell_made(rt, output, who, made, claim),
+        }
     }
 
     /// A claim, which this program makes: nothing is written where one of its keys has the value already, or can't be read.
@@ -143,19 +212,55 @@ impl Desk {
         who: SessionId,
         claim: Claim<'_>,
         program: RestingProgram,
-    ) -> Result<(), ConnectFault> {
-        if !self.are_free(rt, output, who, claim)? {
+    ) -> Result<(), ConnectFault>
+        ensures { OnOk result (ClaimsOne who claim.entry.value.now (claim.entry.key.now ∷ claim.entry.others.now) program self.old self.new (account W.contents output.old) (account W.contents output.new)) }
+    {
+        let are_free = self.are_free(rt, output, who, claim)?;
+        if !are_free {
             return Ok(());
         }
-        let Some(made) = self.write(rt, output, who, program)? else {
-            return Ok(());
-        };
-        let placed = self.tell_outcome(rt, output, who, made)?;
-        self.tell_claim(rt, output, who, made.at, claim, placed.is_some())
+        self.make_claim(rt, output, who, claim, program)
     }
 
-    /// An addition to the key's number, which this program makes; and that it did nothing, where it isn't known what became of it and the key has a text
-    /// at the server that accepted it. That is looked up for nobody: the session has read nothing by it.
+    // Prints that an addition did nothing, where its key has a text at the server of this place. That is looked up for nobody: the session has read
+    // nothing by it.
+    fn look_for_text<W: Write, T: Sockets + Clock>(
+        &mut self,
+        rt: &T,
+        output: &mut Output<W>,
+        who: SessionId,
+        at: usize,
+        key: &Key,
+    ) -> Result<(), ConnectFault>
+        ensures { OnOk result (LooksForText who self.old self.new (account W.contents output.old) (account W.contents output.new)) }
+    {
+        let seen = self.store.look_at(rt, at, key)?;
+        let has_text = is_text(&seen);
+        if !has_text {
+            return Ok(());
+        }
+        self.tell_nothing(output, who)
+    }
+
+    // Prints what became of an addition that was accepted; and that it did nothing, where that isn't known and the key has a text.
+    fn tell_added<W: Write, T: Files<File = File> + Sockets + Wait + Clock>(
+        &mut self,
+        rt: &T,
+        output: &mut Output<W>,
+        who: SessionId,
+        made: Made,
+        key: &Key,
+    ) -> Result<(), ConnectFault>
+        ensures { OnOk result (TellsAdded who made self.old self.new (account W.contents output.old) (account W.contents output.new)) }
+    {
+        let placed = self.tell_outcome(rt, output, who, made)?;
+        match placed {
+            Some(_) => Ok(()),
+            None => self.look_for_text(rt, output, who, made.at, key),
+        }
+    }
+
+    /// An addition to the key's number, which this program makes.
     pub(crate) fn add<W: Write, T: Files<File = File> + Sockets + Wait + Clock>(
         &mut self,
         rt: &T,
@@ -163,21 +268,13 @@ impl Desk {
         who: SessionId,
         key: &Key,
         program: RestingProgram,
-    ) -> Result<(), ConnectFault> {
-        let Some(made) = self.write(rt, output, who, program)? else {
-            return Ok(());
-        };
-        if self.tell_outcome(rt, output, who, made)?.is_some() {
-            return Ok(());
-        }
-        match self.store.look_at(rt, made.at, key)? {
-            Some(
-                Seen {
-                    value: Some(Value::Text(_)),
-                    ..
-                },
-            ) => self.tell_nothing(output, who),
-            _ => Ok(()),
+    ) -> Result<(), ConnectFault>
+        ensures { OnOk result (MakesAddition who program self.old self.new (account W.contents output.old) (account W.contents output.new)) }
+    {
+        let made = self.write(rt, output, who, program)?;
+        match made {
+            None => Ok(()),
+            Some(made) => self.tell_added(rt, output, who, made, key),
         }
     }
 }

@@ -2,16 +2,14 @@
 ghost use Rattle.std.specs.Prelude.{◌≡◌, ◌≢◌, ◌<◌, ◌≤◌, ◌↔◌, ◌&&◌, false, IfOk, IfSome, IsSomeAnd, IsTrue, MatchBool, None, Ok, OnOk, Some, slice_get, slice_set, true};
 ghost use Rattle.std.specs.Bool.{OnFalse, OnTrue};
 ghost use Rattle.bayou_base.specs.declared.limits.TheConstants.{SERVERS as NUMBER};
-ghost use Rattle.bayou_connect.specs.Anywhere.{AsksAnywhere, AsksServer};
+ghost use Rattle.bayou_connect.specs.Anywhere.{AsksServer};
 ghost use Rattle.bayou_connect.specs.Claims.{IsAskedAt, IsMade, IsMadeAs};
 ghost use Rattle.bayou_connect.specs.Commands.{Operates, is_of_servers, operation_of, session_of};
 ghost use Rattle.bayou_connect.specs.Printing.{is_service, nothing_text, told_text};
 ghost use Rattle.bayou_connect.specs.Sessions.{IsNumbered, IsOpenedFrom};
-ghost use Rattle.bayou_connect.specs.declared.asking.Attempt.TheVariants as attempts;
 ghost use Rattle.bayou_connect.specs.declared.told.Told.{Told as Answered};
 ghost use Rattle.bayou_streams.specs.Account.{TakesBytes, account};
 
-use crate::anywhere::anywhere;
 use crate::asking::Attempt;
 use crate::fault::ConnectFault;
 use crate::saying::{nothing_line, told_line};
@@ -19,7 +17,6 @@ use crate::store::Store;
 use crate::told::Told;
 use bayou_answers::Answer;
 use bayou_base::{Accepted, Asks, Key, SESSIONS, ServerId, SessionId, Wid};
-use bayou_lang::RestingProgram;
 use bayou_net::Sockets;
 use bayou_print::{last_line, write_text};
 use bayou_streams::Output;
@@ -235,7 +232,7 @@ impl Desk {
     }
 
     // The Write that was accepted, if it was told that one was, where its server is at hand.
-    fn made_by(&self, told: &Told) -> Option<Made>
+    pub(crate) fn made_by(&self, told: &Told) -> Option<Made>
         ensures { IsMade self.now.store.accesses.items told.now result }
     {
         match told {
@@ -294,42 +291,5 @@ impl Desk {
             | Command::Question(_)
             | Command::Phase => Ok(false),
         }
-    }
-
-    /// A session's read, at any server.
-    pub(crate) fn get<W: Write, T: Files<File = File> + Sockets + Wait + Clock>(
-        &mut self,
-        rt: &T,
-        output: &mut Output<W>,
-        who: SessionId,
-        key: Key,
-    ) -> Result<(), ConnectFault>
-        ensures read { OnOk result ((told : Answered) × AsksAnywhere who (attempts.Read key) self.old.first self.old.rounds self.old.store self.new.store told
-            × TakesBytes (account W.contents output.old) (account W.contents output.new) (told_text self.old.servers who (Some key) told)) }
-        ensures others { self.new ≡ record self.old { store = self.new.store; is_served = self.new.is_served } }
-    {
-        let attempt = Attempt::Read(key.copy());
-        let told = anywhere(rt, &mut self.store, who, &attempt, self.first, self.rounds)?;
-        self.finish(output, who, &Some(key), told)
-    }
-
-    /// A session's Write, at any server: as what it was accepted, if it was.
-    pub(crate) fn write<W: Write, T: Files<File = File> + Sockets + Wait + Clock>(
-        &mut self,
-        rt: &T,
-        output: &mut Output<W>,
-        who: SessionId,
-        program: RestingProgram,
-    ) -> Result<Option<Made>, ConnectFault>
-        ensures written { IfOk result (λ made. (told : Answered) × AsksAnywhere who (attempts.Write program) self.old.first self.old.rounds self.old.store self.new.store told
-            × TakesBytes (account W.contents output.old) (account W.contents output.new) (told_text self.old.servers who None told)
-            × IsMade self.new.store.accesses.items told made) }
-        ensures others { self.new ≡ record self.old { store = self.new.store; is_served = self.new.is_served } }
-    {
-        let attempt = Attempt::Write(program);
-        let told = anywhere(rt, &mut self.store, who, &attempt, self.first, self.rounds)?;
-        let made = self.made_by(&told);
-        self.finish(output, who, &None, told)?;
-        Ok(made)
     }
 }

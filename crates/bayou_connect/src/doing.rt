@@ -1,8 +1,11 @@
 //! A line, done.
-ghost use Rattle.std.specs.Prelude.{◌≡◌, ◌≢◌, ℕ, List, IfOk, IfSome, Ok};
+ghost use Rattle.std.specs.Prelude.{◌≡◌, ◌≢◌, ℕ, List, IfOk, IfSome, Ok, true};
 ghost use Rattle.std.specs.Str.{IsTrimAscii};
 ghost use Rattle.bayou_connect.specs.Speaking.{AsksToWait, DoesLine, DoesSpoken, spoken_of, unread_line};
 ghost use Rattle.bayou_connect.specs.declared.doing.Became.TheVariants as became;
+ghost use Rattle.bayou_connect.specs.Wishing.{DoesWish};
+ghost use Rattle.bayou_person.specs.Wishes.{Wishes};
+ghost use Rattle.bayou_person.specs.declared.wish.Wish.{Wish};
 ghost use Rattle.bayou_person.specs.declared.wish.WishFault.{WishFault as NoWish};
 ghost use Rattle.bayou_streams.specs.Account.{account};
 
@@ -128,6 +131,7 @@ fn do_wish<W: Write, T: Files<File = File> + Sockets + Wait + Clock>(
     line: &[u8],
 ) -> Result<Became, ConnectFault>
     ensures wrong { (fault : NoWish) → result ≡ Ok (Became.Wrong (Wrong.Wish fault)) → (desk.new ≡ desk.old) × (output.new ≡ output.old) }
+    ensures does { result ≡ Ok became.Done → (wish : Wish) × Wishes line.now wish × DoesWish wish desk.old desk.new (account W.contents output.old) (account W.contents output.new) true }
     ensures only { IfOk result (λ done. done ≢ became.Quit) }
 {
     let Ok(text) = str::from_utf8(line) else {

@@ -32,6 +32,7 @@ pub mod round;
 mod saying;
 mod store;
 pub mod told;
+mod trying;
 mod views_file;
 mod wishes;
 

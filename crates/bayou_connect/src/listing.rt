@@ -1,9 +1,9 @@
 //! Rows of a database, which a server tells page after page.
 ghost use Rattle.std.specs.Prelude.{◌≡◌, ◌&&◌, [], ◌++◌, IfOk, MatchOption, None, Ok, OnOk, false, nat_eq, option_copied};
 ghost use Rattle.std.specs.List.{starts_with};
-ghost use Rattle.bayou_connect.specs.Desks.{IsSameDesk};
+ghost use Rattle.bayou_connect.specs.Desks.{IsSameDesk, IsSameSeat};
 ghost use Rattle.bayou_connect.specs.Finals.{keeps_finals, outlook_of};
-ghost use Rattle.bayou_connect.specs.Listing.{AreListed, do_follow, is_behind, last_key as key_last, line_of_row, standing_told};
+ghost use Rattle.bayou_connect.specs.Listing.{AreListed, Lists, PrintsList, do_follow, is_behind, last_key as key_last, line_of_row, prefix_named, standing_told};
 ghost use Rattle.bayou_streams.specs.Account.{TakesBytes, account};
 
 use crate::anywhere::anywhere;
@@ -172,7 +172,8 @@ impl Desk {
         may_mix: bool,
         rows: &mut Rows,
     ) -> Result<Paged, ConnectFault>
-        ensures { AreListed prefix.now rows.old.each.items → IfOk result (λ paged. AreListed prefix.now rows.new.each.items) }
+        ensures same { IsSameSeat self.old self.new × (self.new.is_served ≡ self.old.is_served) }
+        ensures listed { AreListed prefix.now rows.old.each.items → IfOk result (λ paged. AreListed prefix.now rows.new.each.items) }
     {
         let at = self.store.asked_last();
         let mut more = rows.add(prefix, first)?;
@@ -206,7 +207,8 @@ impl Desk {
         who: SessionId,
         prefix: &Prefix,
     ) -> Result<Result<Rows, Told>, ConnectFault>
-        ensures { IfOk result (λ told. IfOk told (λ rows. AreListed prefix.now rows.each.items)) }
+        ensures same { IsSameSeat self.old self.new × (self.new.is_served ≡ self.old.is_served) }
+        ensures listed { IfOk result (λ told. IfOk told (λ rows. AreListed prefix.now rows.each.items)) }
     {
         let mut rows = Rows::none(self.alloc);
         for time in 0..=TIMES_ANEW {
@@ -267,7 +269,10 @@ impl Desk {
         prefix: Option<&Key>,
         rows: Rows,
         beyond: &Option<Beyond>,
-    ) -> Result<(), ConnectFault> {
+    ) -> Result<(), ConnectFault>
+        ensures printed { OnOk result (PrintsList (keeps_finals (outlook_of self.old.store.views)) self.old.servers (option_copied prefix.entry) beyond.now rows (account W.contents output.old) (account W.contents output.new)) }
+        ensures same { self.new ≡ self.old }
+    {
         let Rows {
             each,
             vector,
@@ -295,7 +300,10 @@ impl Desk {
         output: &mut Output<W>,
         who: SessionId,
         prefix: Option<&Key>,
-    ) -> Result<(), ConnectFault> {
+    ) -> Result<(), ConnectFault>
+        ensures listed { OnOk result (Lists who (option_copied prefix.entry) self.old self.new (account W.contents output.old) (account W.contents output.new)) }
+        ensures same { IsSameSeat self.old self.new }
+    {
         let begins = prefix_of(prefix);
         match self.rows_of(rt, who, &begins)? {
             Ok(rows) => {
@@ -315,7 +323,7 @@ impl Desk {
 
 // What keys begin with that begin like this one, or all keys.
 fn prefix_of(named: Option<&Key>) -> Prefix
-    ensures { MatchOption (option_copied named.entry) (result ≡ []) (λ key. result ≡ key) }
+    ensures { result ≡ prefix_named (option_copied named.entry) }
 {
     let text = match named {
         Some(key) => key.as_str(),

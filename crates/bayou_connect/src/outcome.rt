@@ -1,10 +1,8 @@
 //! What became of a Write, as a server tells it.
 ghost use Rattle.std.specs.Prelude.{◌≡◌, ◌&&◌, IfOk, OnOk};
+ghost use Rattle.bayou_connect.specs.Claiming.{IsPlaceOr, TellsBecame, TellsOutcome, fate_told, is_fate_service};
 ghost use Rattle.bayou_connect.specs.Desks.{IsSameDesk};
-ghost use Rattle.bayou_connect.specs.Finals.{outlook_of};
-ghost use Rattle.bayou_connect.specs.Own.{KeepsOwn, own_write};
 ghost use Rattle.bayou_connect.specs.Printing.{changes_something};
-ghost use Rattle.bayou_streams.specs.Account.{Account};
 ghost use Rattle.bayou_print.specs.Connected.{became_text};
 ghost use Rattle.bayou_streams.specs.Account.{TakesBytes, account};
 
@@ -59,10 +57,7 @@ impl Desk {
         who: SessionId,
         made: Made,
     ) -> Result<Option<Placed>, ConnectFault>
-        ensures printed { IfOk result (λ placed. (kept : Account)
-            × KeepsOwn (outlook_of self.old.store.views) (own_write made placed) (outlook_of self.new.store.views) (account W.contents output.old) kept
-            × TakesBytes kept (account W.contents output.new) (became_text who.index made.wid placed)) }
-        ensures served { IfOk result (λ placed. self.new.is_served ≡ (self.old.is_served && changes_something placed)) }
+        ensures told { IfOk result (TellsOutcome who made self.old self.new (account W.contents output.old) (account W.contents output.new)) }
         ensures same { IsSameDesk self.old self.new }
     {
         let placed = match self.store.fate_at(rt, made.at, made.wid)? {
@@ -74,6 +69,40 @@ impl Desk {
         Ok(placed)
     }
 
+    // The place of the server that accepted the Write; where it isn't at hand, of the one that is asked first.
+    fn place_for(&self, wid: Wid) -> usize
+        ensures { IsPlaceOr self.now.store.accesses.items wid.origin self.now.first result }
+    {
+        match self.store.place_of(wid.origin) {
+            Some(at) => at,
+            None => self.first,
+        }
+    }
+
+    // Prints what a session was told that asked what became of a Write.
+    fn print_told<W: Write>(
+        &mut self,
+        output: &mut Output<W>,
+        who: SessionId,
+        wid: Wid,
+        told: Told,
+    ) -> Result<(), ConnectFault>
+        ensures printed { OnOk result (TakesBytes (account W.contents output.old) (account W.contents output.new) (fate_told self.old.servers who wid told)) }
+        ensures served { self.new.is_served ≡ (self.old.is_served && is_fate_service told) }
+        ensures same { self.new.store ≡ self.old.store }
+        ensures desk { IsSameDesk self.old self.new }
+    {
+        match told {
+            Told::Fate(fate) => self.print_placed(output, who, wid, &fate.placed),
+            Told::Seen(seen) => self.finish(output, who, &None, Told::Seen(seen)),
+            Told::Rows(page) => self.finish(output, who, &None, Told::Rows(page)),
+            Told::Accepted(accepted) => self.finish(output, who, &None, Told::Accepted(accepted)),
+            Told::Refused(refusal) => self.finish(output, who, &None, Told::Refused(refusal)),
+            Told::Away => self.finish(output, who, &None, Told::Away),
+            Told::Lost => self.finish(output, who, &None, Told::Lost),
+        }
+    }
+
     /// Prints what became of a Write, by the first server that tells the session: the one that accepted it is asked first.
     pub(crate) fn became<W: Write, T: Files<File = File> + Sockets + Wait + Clock>(
         &mut self,
@@ -81,12 +110,12 @@ impl Desk {
         output: &mut Output<W>,
         who: SessionId,
         wid: Wid,
-    ) -> Result<(), ConnectFault> {
-        let first = self.store.place_of(wid.origin).unwrap_or(self.first);
+    ) -> Result<(), ConnectFault>
+        ensures { OnOk result (TellsBecame who wid self.old self.new (account W.contents output.old) (account W.contents output.new)) }
+    {
+        let first = self.place_for(wid);
         let attempt = Attempt::Became(wid);
-        match anywhere(rt, &mut self.store, who, &attempt, first, self.rounds)? {
-            Told::Fate(fate) => self.print_placed(output, who, wid, &fate.placed),
-            told => self.finish(output, who, &None, told),
-        }
+        let told = anywhere(rt, &mut self.store, who, &attempt, first, self.rounds)?;
+        self.print_told(output, who, wid, told)
     }
 }

@@ -1,4 +1,4 @@
-use Rattle.std.proofs.Common.{List, ℕ, subst, sym}
+use Rattle.std.proofs.Common.{List, ℕ, rules, subst, sym}
 use Rattle.bayou_connect.specs.Anywhere.{AsksAnywhere}
 use Rattle.bayou_connect.specs.declared.asking.Attempt.TheVariants as attempts
 use Rattle.bayou_connect.specs.declared.store.Store.{Store}
@@ -10,8 +10,9 @@ returns-clause-read g c =
     let desk = c.args.self.now in
     let told = c.in_ok-told.told in
     let asked = subst (λ (key : List ℕ). AsksAnywhere c.args.who (attempts.Read key) desk.first desk.rounds desk.store c.anywhere.new.store told) c.copy.ensures c.in_ok-told.ensures in
-    then_ok c.finish.result _ _ c.finish.ensures.printed (λ printed. (
-      told,
-      subst (λ (store : Store). AsksAnywhere c.args.who (attempts.Read c.args.key) desk.first desk.rounds desk.store store told) (sym c.finish.ensures.same) asked,
-      printed,
-    ))
+    then_ok c.finish.result _ _ c.finish.ensures.printed (λ printed. record {
+      told = told;
+      asked = subst (λ (store : Store). AsksAnywhere c.args.who (attempts.Read c.args.key) desk.first desk.rounds desk.store store told) (sym c.finish.ensures.same) asked;
+      printed = printed;
+      seat = search rules;
+    })

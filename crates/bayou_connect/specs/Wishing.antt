@@ -1,0 +1,76 @@
+-- What short lines do: this project's own.
+use Rattle.std.specs.Prelude.{◌≡◌, ◌≢◌, ◌⊎◌, ℕ, Bool, true, All, IsSomeAnd, List, [], ◌∷◌, MatchBool, MatchOption, None, Some, is_some, slice_get}
+use Rattle.bayou_base.specs.declared.server.ServerId.{ServerId}
+use Rattle.bayou_connect.specs.Claiming.{ClaimsOne, MakesAddition, MakesPlainly, ReadsKey, TellsBecame}
+use Rattle.bayou_connect.specs.Desks.{IsSameDesk}
+use Rattle.bayou_connect.specs.Listing.{Lists}
+use Rattle.bayou_connect.specs.Printing.{IsAsksLine}
+use Rattle.bayou_connect.specs.Sessions.{kept_of, own_session}
+use Rattle.bayou_connect.specs.declared.desk.Desk.{Desk}
+use Rattle.bayou_final.specs.declared.standing.Standing.{Standing}
+use Rattle.bayou_lang.specs.declared.program.Program.{Program}
+use Rattle.bayou_person.specs.Doing.{Does}
+use Rattle.bayou_person.specs.declared.wish.Wish.{Wish}
+use Rattle.bayou_person.specs.declared.wish.Wish.TheVariants as wishes
+use Rattle.bayou_print.specs.Connected.{seat_text}
+use Rattle.bayou_print.specs.Standing.{key_standing_text}
+use Rattle.bayou_streams.specs.Account.{Account, TakesBytes}
+
+-- The session of short lines reads a key; and how its value stands is printed after it, if anything is.
+pub record GetsKey (key : List ℕ) (old new : Desk) (before after : Account) : Type 0 where
+  pub read : Desk
+  pub line : Account
+  pub reads : ReadsKey own_session key old read before line
+  pub stands : (after ≡ line) ⊎ ((standing : Standing) × TakesBytes line after (key_standing_text 0 standing key))
+  pub same : IsSameDesk read new
+
+-- and these keys, one after another
+unfoldable pub GetsKeys : List (List ℕ) → (old new : Desk) → (before after : Account) → Type 0
+GetsKeys [] old new before after = (new ≡ old) × (after ≡ before)
+GetsKeys (key ∷ keys) old new before after = (got : Desk) × (line : Account) × GetsKey key old got before line × GetsKeys keys got new line after
+
+-- A Write of this program is made, as such a line asks for it.
+abbrev pub MakesAs : Wish → Program → (old new : Desk) → (before after : Account) → Type 0
+MakesAs (wishes.Claim key others value) program old new before after = ClaimsOne own_session value (key ∷ others.items) program old new before after
+MakesAs (wishes.Add key number) program old new before after = MakesAddition own_session program old new before after
+MakesAs (wishes.Put key value) program old new before after = MakesPlainly own_session program old new before after
+MakesAs (wishes.Del key) program old new before after = MakesPlainly own_session program old new before after
+MakesAs (wishes.Get key others) program old new before after = ⊥
+MakesAs (wishes.At server) program old new before after = ⊥
+MakesAs wishes.List program old new before after = ⊥
+MakesAs (wishes.Rows prefix) program old new before after = ⊥
+MakesAs (wishes.Became wid) program old new before after = ⊥
+MakesAs wishes.Servers program old new before after = ⊥
+MakesAs wishes.Session program old new before after = ⊥
+MakesAs wishes.Dump program old new before after = ⊥
+
+-- the program does what was wished
+abbrev pub Makes : Wish → (old new : Desk) → (before after : Account) → Type 0
+Makes wish old new before after = (program : Program) × Does wish program × MakesAs wish program old new before after
+
+-- what is printed of the session of short lines
+abbrev pub TellsSession : Desk → (before after : Account) → Type 0
+TellsSession desk before after = MatchOption (kept_of desk.store.sessions.items own_session) (after ≡ before)
+    (λ kept. (asks : List ℕ) × (line : Account) × IsAsksLine own_session kept.session.asks asks × TakesBytes before line asks
+    × TakesBytes line after (seat_text 0 desk.servers kept.session.reads kept.session.writes))
+
+-- the server is asked first from then on, if it is at hand
+abbrev pub GoesTo : ServerId → (old new : Desk) → (done : Bool) → Type 0
+GoesTo server old new done = MatchBool done
+    ((at : ℕ) × IsSomeAnd (slice_get old.store.accesses.items at) (λ access. access.place.id ≡ server) × (new ≡ record old { first = at }))
+    (All (λ access. access.place.id ≢ server) old.store.accesses.items × (new ≡ old))
+
+-- What a short line does, and whether that can be done here.
+abbrev pub DoesWish : Wish → (old new : Desk) → (before after : Account) → (done : Bool) → Type 0
+DoesWish (wishes.Get key others) old new before after done = (done ≡ true) × GetsKeys (key ∷ others.items) old new before after
+DoesWish (wishes.At server) old new before after done = GoesTo server old new done × (after ≡ before)
+DoesWish wishes.List old new before after done = (done ≡ true) × Lists own_session None old new before after
+DoesWish (wishes.Rows prefix) old new before after done = (done ≡ true) × Lists own_session (Some prefix) old new before after
+DoesWish (wishes.Became wid) old new before after done = (done ≡ true) × TellsBecame own_session wid old new before after
+DoesWish wishes.Servers old new before after done = done ≡ true
+DoesWish wishes.Session old new before after done = (done ≡ true) × (new ≡ old) × TellsSession old before after
+DoesWish wishes.Dump old new before after done = done ≡ is_some old.store.book
+DoesWish (wishes.Put key value) old new before after done = (done ≡ true) × Makes (wishes.Put key value) old new before after
+DoesWish (wishes.Add key number) old new before after done = (done ≡ true) × Makes (wishes.Add key number) old new before after
+DoesWish (wishes.Del key) old new before after done = (done ≡ true) × Makes (wishes.Del key) old new before after
+DoesWish (wishes.Claim key others value) old new before after done = (done ≡ true) × Makes (wishes.Claim key others value) old new before after
