@@ -16,6 +16,8 @@ mod connect;
 mod connecting;
 mod key;
 mod options;
+mod renew;
+mod renewing;
 mod serve;
 mod serving;
 
@@ -26,6 +28,8 @@ use connect::{connect_command, connecting_in};
 pub use connecting::Connecting;
 use key::key_command;
 use options::text_in;
+use renew::{renew_command, renewing_in};
+pub use renewing::Renewing;
 use serve::{serve_command, serving_in};
 pub use serving::Serving;
 use std::alloc::{AllocError, Global};
@@ -66,7 +70,8 @@ the verdict is clean.
 
 `bayou run --help` has each line of a script, `bayou net --help` how a script is run over sockets, with journals in files,
 `bayou audit --help` each line of an audit file, `bayou serve --help` how one server is kept at a socket for clients of any kind,
-`bayou connect --help` how a person writes and reads at such servers, and `bayou key --help` how a store is kept from strangers.
+`bayou connect --help` how a person writes and reads at such servers, `bayou key --help` how a store is kept from strangers, and
+`bayou renew --help` how a store goes on once its log is full.
 Exit status: 0 nothing is wrong; 1 a verdict is broken; 2 the input or the command line is refused, or a verdict is; 3 memory, a
 device, the network, the input or the output failed.
 docs/TROUBLE.md says what to do about each fault; examples/ has scripts and audit files to begin from."#;
@@ -259,6 +264,8 @@ pub enum Task<'a> {
     Connect(Connecting<'a>),
     /// To make the key of a store of this name, in this file. The name may still be one of nothing.
     Key { name: &'a str, file: &'a str },
+    /// To make the journal of a new store, of one that goes on no more.
+    Renew(Renewing<'a>),
 }
 
 /// Why the words name no task.
@@ -361,6 +368,7 @@ fn bayou_command<'a>(alloc: Global) -> Result<Command<'a>, AllocError>
         .subcommand(serve_command(alloc)?)?
         .subcommand(connect_command(alloc)?)?
         .subcommand(key_command(alloc)?)?
+        .subcommand(renew_command(alloc)?)?
         .subcommand(audit_command(alloc)?)
 }
 
@@ -400,6 +408,7 @@ fn task_in<'a>(alloc: Global, matches: &ArgMatches<'a>) -> Result<Task<'a>, Allo
             name: text_in(found, "name"),
             file: text_in(found, "FILE"),
         },
+        Some(("renew", found)) => Task::Renew(renewing_in(alloc, found)?),
         Some((_, found)) => Task::Run(source_in(found)),
         None => Task::Run(Source::Standard),
     })

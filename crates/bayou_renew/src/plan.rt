@@ -1,0 +1,135 @@
+//! What is to be renewed, as the words of a command line say it.
+ghost use Rattle.std.specs.Prelude.{◌<◌, ◌≤◌};
+ghost use Rattle.bayou_base.specs.declared.limits.TheConstants.{MAX_WRITES as MOST_WRITES, SERVERS as MOST_SERVERS};
+
+use bayou_base::{MAX_WRITES, Prefix, SERVERS, ServerId, Vector};
+use std::alloc::{AllocError, Global};
+use thiserror::Error;
+
+/// What is wanted of the new store.
+#[derive(Drop)]
+pub struct Wish {
+    /// What the old server must hold.
+    pub at: Vector,
+    /// What the keys begin with that are left out.
+    pub without: Vec<Prefix>,
+    /// As how many Writes the database may be made again.
+    pub most: u32,
+    pub ghost room: { most ≤ MOST_WRITES },
+}
+
+/// A server whose database is renewed: which one, of how many, and of how many it is then.
+#[derive(Drop)]
+pub struct Plan {
+    pub id: ServerId,
+    pub servers: u8,
+    pub then: u8,
+    pub wish: Wish,
+    pub ghost among: { (id.index < servers) × (servers ≤ MOST_SERVERS) },
+    pub ghost among_then: { (id.index < then) × (then ≤ MOST_SERVERS) },
+}
+
+/// Why the words of a command line make no plan.
+#[derive(Clone, Copy, Debug, PartialEq, Eq, Error)]
+pub enum PlanFault {
+    #[error("--id is below --servers")]
+    NoServer,
+    #[error("--id is below --servers-then: a server that is left out isn't renewed")]
+    LeftOut,
+    #[error("--at takes a count of Writes for each server, as 12,7,30")]
+    NoCounts,
+    #[error("--without takes 1 to 32 bytes of a-z 0-9 . _ - /")]
+    NoPrefix,
+    #[error("--to is another folder than --dir")]
+    SameFolder,
+    #[error("memory")]
+    OutOfMemory,
+}
+
+impl From<AllocError> for PlanFault {
+    ghost use Rattle.std.specs.Prelude.{◌≡◌};
+    ghost use Rattle.bayou_renew.specs.declared.plan.PlanFault.TheVariants.{OutOfMemory};
+
+    ghost from_gives = { λ _ fault. fault ≡ OutOfMemory };
+
+    fn from(_error: AllocError) -> PlanFault {
+        PlanFault::OutOfMemory
+    }
+}
+
+// The counts that a word says, one for each of so many servers, if it says them.
+fn counts_of(word: &str, servers: u8) -> Option<Vector> {
+    let mut counts = [0; SERVERS];
+    let mut rest = Some(word);
+    for index in 0..usize::from(servers) {
+        let (first, behind) = match rest?.split_once(',') {
+            Some((first, behind)) => (first, Some(behind)),
+            None => (rest?, None),
+        };
+        counts[index] = first.parse::<u32>().ok()?;
+        rest = behind;
+    }
+    match rest {
+        Some(_) => None,
+        None => Vector::from_counts(counts),
+    }
+}
+
+// The prefix that a word says, if it says one. None is empty: that would leave out everything.
+fn prefix_of(word: &str) -> Option<Prefix> {
+    if word.is_empty() {
+        return None;
+    }
+    Prefix::new(word).ok()
+}
+
+// The prefixes that the words say.
+fn prefixes_of(alloc: Global, words: &[&str]) -> Result<Vec<Prefix>, PlanFault> {
+    let mut prefixes = Vec::new(alloc);
+    for word in words {
+        let Some(prefix) = prefix_of(word) else {
+            return Err(PlanFault::NoPrefix);
+        };
+        if prefixes.push(prefix).is_err() {
+            return Err(PlanFault::OutOfMemory);
+        }
+    }
+    Ok(prefixes)
+}
+
+// As how many Writes a database may be made again: as half of those that a log has room for, or where that is asked for as all.
+fn most_writes(is_full: bool) -> u32 {
+    if is_full { MAX_WRITES } else { MAX_WRITES / 2 }
+}
+
+impl Plan {
+    /// The plan to renew a server of this number among so many, as these words say; or the first of them that can't be done.
+    pub fn new(
+        alloc: Global,
+        id: u8,
+        servers: u8,
+        then: u8,
+        at: &str,
+        without: &[&str],
+        is_full: bool,
+    ) -> Result<Plan, PlanFault> {
+        if id >= servers {
+            return Err(PlanFault::NoServer);
+        }
+        if id >= then {
+            return Err(PlanFault::LeftOut);
+        }
+        let Some(at) = counts_of(at, servers) else {
+            return Err(PlanFault::NoCounts);
+        };
+        let without = prefixes_of(alloc, without)?;
+        let most = most_writes(is_full);
+        let wish = Wish { at, without, most };
+        Ok(Plan {
+            id: ServerId { index: id },
+            servers,
+            then,
+            wish,
+        })
+    }
+}
