@@ -1,4 +1,10 @@
 //! A server on a copy of its journal, so that the journal stays as it is.
+ghost use Rattle.std.specs.Prelude.{◌≡◌, ◌⊎◌, ◌<◌, ◌≤◌, IfErr, IfOk, OnOk};
+ghost use Rattle.bayou_base.specs.declared.limits.TheConstants.{SERVERS as MOST_SERVERS};
+ghost use Rattle.bayou_device.specs.Device.{Rose};
+ghost use Rattle.bayou_renew.specs.Renewing.{IsNoJournal, IsOnCopy};
+ghost use Rattle.bayou_renew.specs.declared.fault.ReadingFault.TheVariants.{Device as CallFailed, Memory};
+
 use crate::fault::{ReadingFault, unread};
 use bayou_base::{MAX_WRITES, ServerId};
 use bayou_device::{Device, MemoryDevice, OpenGate, ReadFault};
@@ -15,7 +21,17 @@ pub fn copied<D: Device>(
     id: ServerId,
     count: u8,
     device: &mut D,
-) -> Result<Server<Copied>, ReadingFault> {
+) -> Result<Server<Copied>, ReadingFault>
+    requires known { id.index < count }
+    requires count { count ≤ MOST_SERVERS }
+    // The device has what it had, and keeps what it kept.
+    ensures same { OnOk result (D.content device.new ≡ D.content device.old) }
+    ensures kept { D.kept device.new ≡ D.kept device.old }
+    ensures calls { D.leads_to 1 device.old device.new }
+    ensures copied { D.is_modelled → IfOk result (IsOnCopy ⟦<CarefulDevice<MemoryDevice<OpenGate>> as Device>⟧ id.index count (D.content device.old)) }
+    ensures refused { D.is_modelled → IfErr result (λ fault. (fault ≡ Memory) ⊎ ((fault ≡ CallFailed) × Rose (D.failures device.old) (D.failures device.new))
+        ⊎ IsNoJournal ⟦<CarefulDevice<MemoryDevice<OpenGate>> as Device>⟧ (λ copy. copy.damage) id.index count (D.content device.old) fault) }
+{
     let bytes = match device.read_all(alloc) {
         Ok(bytes) => bytes,
         Err(ReadFault::Failed) => return Err(ReadingFault::Device),

@@ -1,4 +1,7 @@
 //! Why nothing is renewed.
+ghost use Rattle.std.specs.Prelude.{◌≡◌};
+ghost use Rattle.bayou_renew.specs.Renewing.{unread_as};
+
 use bayou_base::Vector;
 use bayou_journal::Damage;
 use bayou_server::{JournalFault, StartFault};
@@ -72,7 +75,9 @@ impl From<AllocError> for RenewFault {
 }
 
 /// What a start that was refused is told as. A device that refused a cut tells the damage.
-pub(crate) fn unread(refused: StartFault, damage: Option<Damage>) -> ReadingFault {
+pub(crate) fn unread(refused: StartFault, damage: Option<Damage>) -> ReadingFault
+    ensures { result ≡ unread_as refused damage }
+{
     match (refused, damage) {
         (StartFault::Journal(JournalFault::Device), Some(damage)) => ReadingFault::Damaged(damage),
         (StartFault::Journal(JournalFault::Device), None) => ReadingFault::Device,

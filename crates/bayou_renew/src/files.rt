@@ -1,4 +1,6 @@
 //! The files of the old journal and of the new one.
+ghost use Rattle.std.specs.Prelude.{◌<◌};
+
 use crate::fault::{ReadingFault, RenewFault, WritingFault};
 use crate::plan::Plan;
 use crate::renewing::{Renewed, put_journal, renew};
@@ -104,7 +106,9 @@ pub fn renew_journal<T: Files<File = File>>(
     plan: &Plan,
     paths: Paths<'_>,
     run: u32,
-) -> Result<Renewed, NotRenewed> {
+) -> Result<Renewed, NotRenewed>
+    requires { 0 < run }
+{
     look_for_nothing(rt, paths.new)?;
     let mut old = match open_old(rt, paths.old) {
         Ok(old) => old,

@@ -1,5 +1,8 @@
 //! What is to be renewed, as the words of a command line say it.
-ghost use Rattle.std.specs.Prelude.{◌<◌, ◌≤◌};
+ghost use Rattle.std.specs.Prelude.{◌≡◌, ◌<◌, ◌≤◌, Err, IfErr, IfNone, IfOk, IfSome, map};
+ghost use Rattle.std.specs.List.{AllZip};
+ghost use Rattle.bayou_renew.specs.Words.{Refuses, RefusesPrefixes, SaysNoPrefix, SaysPrefix, most_of};
+ghost use Rattle.bayou_renew.specs.declared.plan.PlanFault.TheVariants.{LeftOut, NoServer};
 ghost use Rattle.bayou_base.specs.declared.limits.TheConstants.{MAX_WRITES as MOST_WRITES, SERVERS as MOST_SERVERS};
 
 use bayou_base::{MAX_WRITES, Prefix, SERVERS, ServerId, Vector};
@@ -23,10 +26,10 @@ pub struct Wish {
 pub struct Plan {
     pub id: ServerId,
     pub servers: u8,
-    pub then: u8,
+    pub servers_then: u8,
     pub wish: Wish,
     pub ghost among: { (id.index < servers) × (servers ≤ MOST_SERVERS) },
-    pub ghost among_then: { (id.index < then) × (then ≤ MOST_SERVERS) },
+    pub ghost among_then: { (id.index < servers_then) × (servers_then ≤ MOST_SERVERS) },
 }
 
 /// Why the words of a command line make no plan.
@@ -58,7 +61,9 @@ impl From<AllocError> for PlanFault {
 }
 
 // The counts that a word says, one for each of so many servers, if it says them.
-fn counts_of(word: &str, servers: u8) -> Option<Vector> {
+fn counts_of(word: &str, servers: u8) -> Option<Vector>
+    requires { servers ≤ MOST_SERVERS }
+{
     let mut counts = [0; SERVERS];
     let mut rest = Some(word);
     for index in 0..usize::from(servers) {
@@ -76,7 +81,10 @@ fn counts_of(word: &str, servers: u8) -> Option<Vector> {
 }
 
 // The prefix that a word says, if it says one. None is empty: that would leave out everything.
-fn prefix_of(word: &str) -> Option<Prefix> {
+fn prefix_of(word: &str) -> Option<Prefix>
+    ensures said { IfSome result (SaysPrefix word.now) }
+    ensures none { IfNone result (SaysNoPrefix word.now) }
+{
     if word.is_empty() {
         return None;
     }
@@ -84,7 +92,10 @@ fn prefix_of(word: &str) -> Option<Prefix> {
 }
 
 // The prefixes that the words say.
-fn prefixes_of(alloc: Global, words: &[&str]) -> Result<Vec<Prefix>, PlanFault> {
+fn prefixes_of(alloc: Global, words: &[&str]) -> Result<Vec<Prefix>, PlanFault>
+    ensures said { IfOk result (λ prefixes. AllZip (λ word prefix. SaysPrefix word.now prefix) words.now prefixes.items) }
+    ensures refused { IfErr result (RefusesPrefixes (map (λ word. word.now) words.now)) }
+{
     let mut prefixes = Vec::new(alloc);
     for word in words {
         let Some(prefix) = prefix_of(word) else {
@@ -98,7 +109,9 @@ fn prefixes_of(alloc: Global, words: &[&str]) -> Result<Vec<Prefix>, PlanFault> 
 }
 
 // As how many Writes a database may be made again: as half of those that a log has room for, or where that is asked for as all.
-fn most_writes(is_full: bool) -> u32 {
+fn most_writes(is_full: bool) -> u32
+    ensures { result ≡ most_of is_full }
+{
     if is_full { MAX_WRITES } else { MAX_WRITES / 2 }
 }
 
@@ -108,27 +121,39 @@ impl Plan {
         alloc: Global,
         id: u8,
         servers: u8,
-        then: u8,
+        servers_then: u8,
         at: &str,
         without: &[&str],
         is_full: bool,
-    ) -> Result<Plan, PlanFault> {
+    ) -> Result<Plan, PlanFault>
+        requires in_range { servers ≤ MOST_SERVERS }
+        requires then_in_range { servers_then ≤ MOST_SERVERS }
+        ensures whose { IfOk result (λ plan. (plan.id.index ≡ id) × (plan.servers ≡ servers) × (plan.servers_then ≡ servers_then)) }
+        ensures said { IfOk result (λ plan. AllZip (λ word prefix. SaysPrefix word.now prefix) without.now plan.wish.without.items) }
+        ensures most { IfOk result (λ plan. plan.wish.most ≡ most_of is_full) }
+        ensures none { servers ≤ id → result ≡ Err NoServer }
+        ensures left { id < servers → servers_then ≤ id → result ≡ Err LeftOut }
+        ensures refused { IfErr result (Refuses id servers servers_then (map (λ word. word.now) without.now)) }
+    {
         if id >= servers {
             return Err(PlanFault::NoServer);
         }
-        if id >= then {
+        if id >= servers_then {
             return Err(PlanFault::LeftOut);
         }
         let Some(at) = counts_of(at, servers) else {
             return Err(PlanFault::NoCounts);
         };
-        let without = prefixes_of(alloc, without)?;
+        let without = match prefixes_of(alloc, without) {
+            Ok(without) => without,
+            Err(fault) => return Err(fault),
+        };
         let most = most_writes(is_full);
         let wish = Wish { at, without, most };
         Ok(Plan {
             id: ServerId { index: id },
             servers,
-            then,
+            servers_then,
             wish,
         })
     }
