@@ -5,11 +5,12 @@ ghost use Rattle.clap.specs.Words.{app_of, found_of, rows_of};
 ghost use Rattle.bayou_command.specs.Options.{with_rules};
 ghost use Rattle.bayou_command.specs.Renew.{renew_app, renewal_of, renewal_seen, wanted_rules, whose_rules};
 
-use crate::options::{flag, flag_in, number_in, number_option, text_in, texts_in, value_option};
+use crate::options::{
+    flag, flag_in, named_option, number_in, number_option, text_in, texts_in, value_option,
+};
 use crate::renewing::Renewing;
 use crate::{folder_in, folder_option};
 use bayou_base::limits::SERVERS;
-use clap::builder::ValueParser;
 use clap::{ArgAction, ArgMatches, Command};
 use std::alloc::{AllocError, Global};
 
@@ -68,7 +69,7 @@ fn with_whose<'a>(alloc: Global, command: Command<'a>) -> Result<Command<'a>, Al
 {
     let id = number_option(alloc, "id", "I", ID, 0, SERVERS as u32 - 1);
     let servers = number_option(alloc, "servers", "N", COUNT, 1, SERVERS as u32);
-    let to = value_option(alloc, "to", "NEW", TO).value_parser(ValueParser::NonEmptyString);
+    let to = named_option(alloc, "to", "NEW", TO);
     command
         .arg(id.required(true))?
         .arg(servers.required(true))?
