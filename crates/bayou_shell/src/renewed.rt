@@ -1,4 +1,12 @@
 //! Servers whose store goes on as a new one, from the words to the exit status.
+ghost use Rattle.std.specs.Prelude.{◌≡◌, ◌≢◌, ◌⊎◌, ◌<◌, ℕ, IfErr, IfOk, IfSome, List, MatchResult, Option, Some, string_bytes, true};
+ghost use Rattle.bayou_command.specs.Renew.{renewal_seen};
+ghost use Rattle.bayou_renew.specs.declared.plan.PlanFault.TheVariants.{OutOfMemory};
+ghost use Rattle.bayou_renew.specs.declared.renewing.Renewed.{Renewed as New};
+ghost use Rattle.bayou_shell.specs.Renewals.{IsWishOf, RefusesRenewal, elsewhere_text, renewed_text, too_many_text};
+ghost use Rattle.bayou_shell.specs.Told.{told_text};
+ghost use Rattle.bayou_socket_run.specs.Damage.{journal_name};
+ghost use Rattle.bayou_streams.specs.Account.{TakesBytes, account};
 
 use crate::telling::{tell_line, told_line};
 use bayou_base::Vector;
@@ -29,7 +37,10 @@ const REFUSED: u8 = 2;
 const FAILED: u8 = 3;
 
 // The plan, or why there is none; but want of memory is told at once.
-fn kept_plan(plan: Result<Plan, PlanFault>) -> Result<Result<Plan, PlanFault>, AllocError> {
+fn kept_plan(plan: Result<Plan, PlanFault>) -> Result<Result<Plan, PlanFault>, AllocError>
+    ensures same { IfOk result (λ kept. kept ≡ plan) }
+    ensures known { IfOk result (λ kept. IfErr kept (λ fault. fault ≢ OutOfMemory)) }
+{
     match plan {
         Err(PlanFault::OutOfMemory) => Err(AllocError),
         plan => Ok(plan),
@@ -37,7 +48,9 @@ fn kept_plan(plan: Result<Plan, PlanFault>) -> Result<Result<Plan, PlanFault>, A
 }
 
 // Why the words make no plan, or the plan that they make.
-fn plan_in(alloc: Global, renewing: &Renewing<'_>) -> Result<Result<Plan, PlanFault>, AllocError> {
+fn plan_in(alloc: Global, renewing: &Renewing<'_>) -> Result<Result<Plan, PlanFault>, AllocError>
+    ensures { IfOk result (λ plan. MatchResult plan (IsWishOf (renewal_seen renewing.now)) (RefusesRenewal (renewal_seen renewing.now))) }
+{
     if renewing.folder == renewing.to {
         return Ok(Err(PlanFault::SameFolder));
     }
@@ -55,7 +68,11 @@ fn plan_in(alloc: Global, renewing: &Renewing<'_>) -> Result<Result<Plan, PlanFa
 
 impl Renewal {
     /// What the words ask for. What can't be done of them is told once it is to be done; want of memory alone is told at once.
-    pub fn of(alloc: Global, renewing: &Renewing<'_>) -> Result<Self, AllocError> {
+    pub fn of(alloc: Global, renewing: &Renewing<'_>) -> Result<Self, AllocError>
+        ensures old { IfOk result (λ renewal. string_bytes renewal.old ≡ journal_name renewing.now.folder.now renewing.now.id) }
+        ensures new { IfOk result (λ renewal. string_bytes renewal.new ≡ journal_name renewing.now.to.now renewing.now.id) }
+        ensures asked { IfOk result (λ renewal. MatchResult renewal.plan (IsWishOf (renewal_seen renewing.now)) (RefusesRenewal (renewal_seen renewing.now))) }
+    {
         let (folder, to, id) = (renewing.folder, renewing.to, renewing.id);
         Ok(Renewal {
             old: format!(in alloc; "{folder}/server-{id}.journal")?,
@@ -65,13 +82,10 @@ impl Renewal {
     }
 }
 
-// The line that tells what a server holds in the place of what it must hold.
-fn elsewhere_line(
-    alloc: Global,
-    path: &str,
-    plan: &Plan,
-    held: &Vector,
-) -> Result<String, AllocError> {
+// What is told of a server that holds this in the place of what it must hold.
+fn elsewhere_cause(alloc: Global, plan: &Plan, held: &Vector) -> Result<String, AllocError>
+    ensures { IfOk result (λ cause. string_bytes cause ≡ elsewhere_text plan.now held.now) }
+{
     let servers = plan.servers;
     let holds = Counts {
         vector: held,
@@ -81,32 +95,32 @@ fn elsewhere_line(
         vector: &plan.wish.at,
         servers,
     };
-    format!(in alloc; "bayou: {path}: it holds {holds}, and not {wanted} as --at says\n")
+    format!(in alloc; "it holds {holds}, and not {wanted} as --at says")
+}
+
+// What is told of a database that takes so many Writes.
+fn too_many_cause(alloc: Global, plan: &Plan, number: usize) -> Result<String, AllocError>
+    ensures { IfOk result (λ cause. string_bytes cause ≡ too_many_text plan.now number) }
+{
+    let most = plan.wish.most;
+    format!(in alloc;
+        "its database takes {number} Writes, more than {most}: leave keys out by --without, or call it with --full"
+    )
 }
 
 // The line that tells what is wrong with the old journal, or with what is wanted of it.
-fn old_line(
-    alloc: Global,
-    path: &str,
-    plan: &Plan,
-    fault: RenewFault,
-) -> Result<String, AllocError> {
-    match fault {
-        RenewFault::Elsewhere(held) => elsewhere_line(alloc, path, plan, &held),
-        RenewFault::TooMany(number) => {
-            let most = plan.wish.most;
-            format!(in alloc;
-                "bayou: {path}: its database takes {number} Writes, more than {most}: leave keys out by --without, or call it with --full\n"
-            )
-        }
+fn old_line(alloc: Global, path: &str, plan: &Plan, fault: RenewFault) -> Result<String, AllocError>
+    ensures { IfOk result (λ line. (file : Option (List ℕ)) × (cause : List ℕ) × (string_bytes line ≡ told_text file cause)) }
+{
+    let cause = match fault {
         RenewFault::OutOfMemory | RenewFault::Unread(ReadingFault::Memory) => {
-            told_line(alloc, None, "memory")
+            return told_line(alloc, None, "memory");
         }
-        RenewFault::Unread(fault) => {
-            let cause = fault.to_string(alloc)?;
-            told_line(alloc, Some(path), cause.as_str())
-        }
-    }
+        RenewFault::Elsewhere(held) => elsewhere_cause(alloc, plan, &held)?,
+        RenewFault::TooMany(number) => too_many_cause(alloc, plan, number)?,
+        RenewFault::Unread(fault) => fault.to_string(alloc)?,
+    };
+    told_line(alloc, Some(path), cause.as_str())
 }
 
 // The line that tells why there is no new journal, with the file that is at fault.
@@ -115,7 +129,9 @@ fn fault_line(
     paths: Paths<'_>,
     plan: &Plan,
     fault: NotRenewed,
-) -> Result<String, AllocError> {
+) -> Result<String, AllocError>
+    ensures { IfOk result (λ line. (file : Option (List ℕ)) × (cause : List ℕ) × (string_bytes line ≡ told_text file cause)) }
+{
     match fault {
         NotRenewed::Old(fault) => old_line(alloc, paths.old, plan, fault),
         NotRenewed::New(fault) => {
@@ -131,21 +147,27 @@ fn print_renewed<W: Write>(
     output: &mut Output<W>,
     plan: &Plan,
     renewed: &Renewed,
-) -> Result<bool, AllocError> {
+) -> Result<bool, AllocError>
+    ensures { IfOk result (λ is_printed. is_printed ≡ true → (digits : List ℕ) × TakesBytes (account W.contents output.old) (account W.contents output.new) (renewed_text plan.now renewed.now digits)) }
+{
     let (id, keys, digest) = (plan.id.index, renewed.keys, renewed.digest);
     let writes = renewed.server.receipts().len();
     let held = Counts {
         vector: &plan.wish.at,
         servers: plan.servers,
     };
+    let digits = format!(in alloc; "{digest:016x}")?;
+    let digits = digits.as_str();
     let line = format!(in alloc;
-        "renewed {id} at {held} keys {keys} writes {writes} digest {digest:016x}\n"
+        "renewed {id} at {held} keys {keys} writes {writes} digest {digits}\n"
     )?;
     Ok(write_text(output, line.as_bytes()).is_ok())
 }
 
 // A run that nobody else has, as far as chance goes.
-fn drawn_run<T: RandomSource>(rt: &T) -> Option<u32> {
+fn drawn_run<T: RandomSource>(rt: &T) -> Option<u32>
+    ensures { IfSome result (λ run. 0 < run) }
+{
     let mut bytes = [0; 4];
     if rt.fill_bytes(&mut bytes).is_err() {
         return None;
@@ -165,6 +187,11 @@ where
     W: Write,
     E: Write + Drop,
     T: fs::Files<File = File> + RandomSource,
+    ensures status { (result ≡ 0) ⊎ (result ≡ REFUSED) ⊎ (result ≡ FAILED) }
+    // Of words that can't be done nothing is made or printed.
+    ensures refused { IfErr renewal.plan (λ _. (result ≡ REFUSED) × (output.new ≡ output.old)) }
+    ensures taken { IfOk renewal.plan (λ _. (result ≡ 0) ⊎ (result ≡ FAILED)) }
+    ensures made { result ≡ 0 → IfOk renewal.plan (λ plan. (renewed : New) × (digits : List ℕ) × TakesBytes (account W.contents output.old) (account W.contents output.new) (renewed_text plan renewed digits)) }
 {
     let mut errors = errors;
     let Renewal { old, new, plan } = renewal;
