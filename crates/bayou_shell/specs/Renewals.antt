@@ -10,6 +10,7 @@ use Rattle.bayou_renew.specs.declared.plan.PlanFault.TheVariants.{NoServer, Left
 use Rattle.bayou_renew.specs.declared.renewing.Renewed.{Renewed}
 use Rattle.bayou_shell.specs.declared.renewed.Renewal.{Renewal}
 use Rattle.bayou_socket_run.specs.Damage.{journal_name}
+use Rattle.bayou_streams.specs.Account.{Account, TakesBytes}
 
 -- the plan is what the words ask for; what counts the word behind --at says, no clause says
 pub record IsWishOf (asked : Asking) (plan : Plan) : Type 0 where
@@ -49,3 +50,9 @@ elsewhere_text plan held = codes "it holds " ++ (counts_text plan.servers held +
 abbrev pub too_many_text : Plan → (number : ℕ) → List ℕ
 too_many_text plan number =
     codes "its database takes " ++ (decimal number ++ (codes " Writes, more than " ++ (decimal plan.wish.most ++ codes ": leave keys out by --without, or call it with --full")))
+
+-- that line is printed, of some server that was made as the plan says, and of some digits
+pub record PrintsRenewed (plan : Plan) (old new : Account) : Type 0 where
+  pub renewed : Renewed
+  pub digits : List ℕ
+  pub takes : TakesBytes old new (renewed_text plan renewed digits)

@@ -2,8 +2,7 @@
 ghost use Rattle.std.specs.Prelude.{◌≡◌, ◌≢◌, ◌⊎◌, ◌<◌, ℕ, IfErr, IfOk, IfSome, List, MatchResult, Option, Some, string_bytes, true};
 ghost use Rattle.bayou_command.specs.Renew.{renewal_seen};
 ghost use Rattle.bayou_renew.specs.declared.plan.PlanFault.TheVariants.{OutOfMemory};
-ghost use Rattle.bayou_renew.specs.declared.renewing.Renewed.{Renewed as New};
-ghost use Rattle.bayou_shell.specs.Renewals.{IsWishOf, RefusesRenewal, elsewhere_text, renewed_text, too_many_text};
+ghost use Rattle.bayou_shell.specs.Renewals.{IsWishOf, PrintsRenewed, RefusesRenewal, elsewhere_text, renewed_text, too_many_text};
 ghost use Rattle.bayou_shell.specs.Told.{told_text};
 ghost use Rattle.bayou_socket_run.specs.Damage.{journal_name};
 ghost use Rattle.bayou_streams.specs.Account.{TakesBytes, account};
@@ -141,6 +140,28 @@ fn fault_line(
     }
 }
 
+// Tells that the new journal is there, with these digits for the digest of its Writes.
+fn write_renewed<W: Write>(
+    alloc: Global,
+    output: &mut Output<W>,
+    plan: &Plan,
+    renewed: &Renewed,
+    digits: &str,
+) -> Result<bool, AllocError>
+    ensures { IfOk result (λ is_printed. is_printed ≡ true → TakesBytes (account W.contents output.old) (account W.contents output.new) (renewed_text plan.now renewed.now digits.now)) }
+{
+    let (id, keys) = (plan.id.index, renewed.keys);
+    let writes = renewed.server.receipts().len();
+    let held = Counts {
+        vector: &plan.wish.at,
+        servers: plan.servers,
+    };
+    let line = format!(in alloc;
+        "renewed {id} at {held} keys {keys} writes {writes} digest {digits}\n"
+    )?;
+    Ok(write_text(output, line.as_bytes()).is_ok())
+}
+
 // Tells that the new journal is there.
 fn print_renewed<W: Write>(
     alloc: Global,
@@ -148,20 +169,11 @@ fn print_renewed<W: Write>(
     plan: &Plan,
     renewed: &Renewed,
 ) -> Result<bool, AllocError>
-    ensures { IfOk result (λ is_printed. is_printed ≡ true → (digits : List ℕ) × TakesBytes (account W.contents output.old) (account W.contents output.new) (renewed_text plan.now renewed.now digits)) }
+    ensures { IfOk result (λ is_printed. is_printed ≡ true → PrintsRenewed plan.now (account W.contents output.old) (account W.contents output.new)) }
 {
-    let (id, keys, digest) = (plan.id.index, renewed.keys, renewed.digest);
-    let writes = renewed.server.receipts().len();
-    let held = Counts {
-        vector: &plan.wish.at,
-        servers: plan.servers,
-    };
+    let digest = renewed.digest;
     let digits = format!(in alloc; "{digest:016x}")?;
-    let digits = digits.as_str();
-    let line = format!(in alloc;
-        "renewed {id} at {held} keys {keys} writes {writes} digest {digits}\n"
-    )?;
-    Ok(write_text(output, line.as_bytes()).is_ok())
+    write_renewed(alloc, output, plan, renewed, digits.as_str())
 }
 
 // A run that nobody else has, as far as chance goes.
@@ -191,7 +203,7 @@ where
     // Of words that can't be done nothing is made or printed.
     ensures refused { IfErr renewal.plan (λ _. (result ≡ REFUSED) × (output.new ≡ output.old)) }
     ensures taken { IfOk renewal.plan (λ _. (result ≡ 0) ⊎ (result ≡ FAILED)) }
-    ensures made { result ≡ 0 → IfOk renewal.plan (λ plan. (renewed : New) × (digits : List ℕ) × TakesBytes (account W.contents output.old) (account W.contents output.new) (renewed_text plan renewed digits)) }
+    ensures made { result ≡ 0 → IfOk renewal.plan (λ plan. PrintsRenewed plan (account W.contents output.old) (account W.contents output.new)) }
 {
     let mut errors = errors;
     let Renewal { old, new, plan } = renewal;
