@@ -62,7 +62,8 @@ fn plan_in(alloc: Global, renewing: &Renewing<'_>) -> Result<Result<Plan, PlanFa
         renewing.without.as_slice(),
         renewing.is_full,
     );
-    kept_plan(plan)
+    let plan = kept_plan(plan)?;
+    Ok(plan)
 }
 
 impl Renewal {
@@ -107,19 +108,39 @@ fn too_many_cause(alloc: Global, plan: &Plan, number: usize) -> Result<String, A
     )
 }
 
-// The line that tells what is wrong with the old journal, or with what is wanted of it.
-fn old_line(alloc: Global, path: &str, plan: &Plan, fault: RenewFault) -> Result<String, AllocError>
+// The line that tells the cause, with the file that is at fault, where one is.
+fn cause_line(alloc: Global, file: Option<&str>, cause: &str) -> Result<String, AllocError>
     ensures { IfOk result (λ line. (file : Option (List ℕ)) × (cause : List ℕ) × (string_bytes line ≡ told_text file cause)) }
 {
-    let cause = match fault {
+    told_line(alloc, file, cause)
+}
+
+// The line that tells what is wrong with the old journal, or with what is wanted of it.
+fn old_line(
+    alloc: Global,
+    path: &str,
+    plan: &Plan,
+    fault: &RenewFault,
+) -> Result<String, AllocError>
+    ensures { IfOk result (λ line. (file : Option (List ℕ)) × (cause : List ℕ) × (string_bytes line ≡ told_text file cause)) }
+{
+    match fault {
         RenewFault::OutOfMemory | RenewFault::Unread(ReadingFault::Memory) => {
-            return told_line(alloc, None, "memory");
+            cause_line(alloc, None, "memory")
         }
-        RenewFault::Elsewhere(held) => elsewhere_cause(alloc, plan, &held)?,
-        RenewFault::TooMany(number) => too_many_cause(alloc, plan, number)?,
-        RenewFault::Unread(fault) => fault.to_string(alloc)?,
-    };
-    told_line(alloc, Some(path), cause.as_str())
+        RenewFault::Elsewhere(held) => {
+            let cause = elsewhere_cause(alloc, plan, held)?;
+            cause_line(alloc, Some(path), cause.as_str())
+        }
+        RenewFault::TooMany(number) => {
+            let cause = too_many_cause(alloc, plan, *number)?;
+            cause_line(alloc, Some(path), cause.as_str())
+        }
+        RenewFault::Unread(fault) => {
+            let cause = fault.to_string(alloc)?;
+            cause_line(alloc, Some(path), cause.as_str())
+        }
+    }
 }
 
 // The line that tells why there is no new journal, with the file that is at fault.
@@ -127,7 +148,7 @@ fn fault_line(
     alloc: Global,
     paths: Paths<'_>,
     plan: &Plan,
-    fault: NotRenewed,
+    fault: &NotRenewed,
 ) -> Result<String, AllocError>
     ensures { IfOk result (λ line. (file : Option (List ℕ)) × (cause : List ℕ) × (string_bytes line ≡ told_text file cause)) }
 {
@@ -135,7 +156,7 @@ fn fault_line(
         NotRenewed::Old(fault) => old_line(alloc, paths.old, plan, fault),
         NotRenewed::New(fault) => {
             let cause = fault.to_string(alloc)?;
-            told_line(alloc, Some(paths.new), cause.as_str())
+            cause_line(alloc, Some(paths.new), cause.as_str())
         }
     }
 }
@@ -225,7 +246,7 @@ where
     let renewed = match renew_journal(rt, alloc, &plan, paths, run) {
         Ok(renewed) => renewed,
         Err(fault) => {
-            tell_line(&mut errors, fault_line(alloc, paths, &plan, fault));
+            tell_line(&mut errors, fault_line(alloc, paths, &plan, &fault));
             return FAILED;
         }
     };
