@@ -1,3 +1,6 @@
 mod Database
-mod Pages
+mod Holding
 mod Made
+mod Outcomes
+mod Pages
+mod Said

@@ -5,6 +5,7 @@ use Rattle.bayou_lang.specs.Writes.{IsNextWrite}
 use Rattle.bayou_log.specs.Log.{Log}
 use Rattle.bayou_log.specs.Rows.{Row}
 use Rattle.bayou_renew.specs.Renewal.{ORIGIN, Puts}
+use Rattle.bayou_server.specs.Server.{Core}
 
 -- the key is that of the last of the rows
 pub record IsLastKey (rows : List Row) (key : List ℕ) : Type 0 where
@@ -21,3 +22,10 @@ pub record Adds (rows : List Row) (old new : Log) : Type 0 where
   pub held : new.receipts ≡ old.receipts ++ write ∷ []
   pub count : new.count ≡ old.count
   pub limit : new.limit ≡ old.limit
+
+-- the server held nothing, and now it holds these Writes
+pub record HoldsThem (old : Core) (writes : List Write) (new : Core) : Type 0 where
+  pub held : new.held ≡ writes
+  pub doubt : new.doubt ≡ old.doubt
+  pub id : new.id ≡ old.id
+  pub count : new.count ≡ old.count

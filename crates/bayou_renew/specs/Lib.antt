@@ -1,2 +1,4 @@
 pub mod Inner
 pub mod Renewal
+pub mod Renewing
+pub mod Words

@@ -7,9 +7,19 @@
 //! Callers owe no more rows than the Writes of one log may put.
 #![tactic(auto)]
 
+pub mod copied;
+pub mod digesting;
+pub mod fault;
+pub mod files;
 pub mod laws;
+pub mod plan;
+pub mod renewing;
 pub mod rows;
 pub mod writes;
 
+pub use fault::{ReadingFault, RenewFault, WritingFault};
+pub use files::{NotRenewed, Paths, renew_journal};
+pub use plan::{Plan, PlanFault, Wish};
+pub use renewing::{Renewed, put_journal, renew};
 pub use rows::kept_rows_of;
 pub use writes::{number_of, writes_of};

@@ -11,7 +11,7 @@ use bayou_log::WriteLog;
 use std::alloc::{AllocError, Global};
 
 /// The server that makes the Writes of a new store.
-const MAKER: ServerId = ServerId { index: 0 };
+pub(crate) const MAKER: ServerId = ServerId { index: 0 };
 
 /// As how many Writes so many rows are made.
 pub fn number_of(rows: usize) -> usize
