@@ -1,4 +1,4 @@
--- Words of `serve` and of `connect`, and what they ask for.
+-- Words of `serve`, of `connect` and of `renew`, and what they ask for.
 use Rattle.std.specs.Prelude.{◌≡◌, ℕ, false, true, List, [], ◌∷◌, None, codes, pos}
 use Rattle.std.specs.Str.Parse.{digits_value, without_leading_plus}
 use Rattle.clap.specs.ValueTests.{is_signed_in}
@@ -6,6 +6,7 @@ use Rattle.clap.specs.Words.{Text, without_minus}
 use Rattle.clap.specs.declared.error.kind.ErrorKind.TheVariants.{ValueValidation}
 use Rattle.bayou_command.specs.Serve.{Service}
 use Rattle.bayou_command.specs.Connect.{Connection}
+use Rattle.bayou_command.specs.Renew.{Renewal}
 use Rattle.bayou_command.specs.Words.{AskFor, Asked, faults_of, standard}
 
 -- the program and its command, before these words
@@ -62,6 +63,27 @@ plain_connection = record {
 -- the program and its last command but one, before these words
 abbrev pub key_words : List Text → List Text
 key_words words = codes "bayou" ∷ codes "key" ∷ words
+
+-- the program and how a store goes on as a new one, before these words
+abbrev pub renew_words : List Text → List Text
+renew_words words = codes "bayou" ∷ codes "renew" ∷ words
+
+-- with the options that must be there, and these words
+abbrev pub renew_with : List Text → List Text
+renew_with words = renew_words (codes "--id" ∷ codes "1" ∷ codes "--servers" ∷ codes "3" ∷ codes "--dir" ∷ codes "d" ∷ codes "--to" ∷ codes "n" ∷ codes "--at" ∷ codes "1,2,3" ∷ words)
+
+-- what those options ask for
+abbrev pub plain_renewal : Renewal
+plain_renewal = record {
+  id = 1;
+  servers = 3;
+  servers_then = 3;
+  folder = codes "d";
+  to = codes "n";
+  at = codes "1,2,3";
+  without = [];
+  is_full = false;
+}
 
 -- the number that a text is in decimal digits, behind a sign or none
 abbrev pub number_written : Text → ℕ

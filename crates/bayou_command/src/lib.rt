@@ -8,14 +8,16 @@
 ghost use Rattle.std.specs.Prelude.{◌≡◌, ◌∷◌, ◌++◌, [], ℕ, IfOk, List, Some, codes, false, map, true};
 ghost use Rattle.clap.specs.declared.builder.command.Command.TheViews.{out-Command as fields_of};
 ghost use Rattle.clap.specs.Words.{app_of, found_of, kind_of, rows_of, rule_of, subcommand_rows_of};
-ghost use Rattle.bayou_command.specs.Words.{AskFor, Names, a_connect, a_key, a_net, a_run, a_serve, an_audit, asked_by, audit_app, bayou_app, faults_of, file, folder_of, folder_rule, input_of, input_seen, main_app, net_app, run_app, standard, task_seen};
-ghost use Rattle.bayou_command.specs.Rows.{TakesNumbers, connect_with, connect_words, key_words, plain_connection, plain_service, serve_with, serve_words};
+ghost use Rattle.bayou_command.specs.Words.{AskFor, Names, a_connect, a_key, a_net, a_renewal, a_run, a_serve, an_audit, asked_by, audit_app, bayou_app, faults_of, file, folder_of, folder_rule, input_of, input_seen, main_app, net_app, run_app, standard, task_seen};
+ghost use Rattle.bayou_command.specs.Rows.{TakesNumbers, connect_with, connect_words, key_words, plain_connection, plain_renewal, plain_service, renew_with, renew_words, serve_with, serve_words};
 ghost use Rattle.bayou_command.specs.Inner.Stops.{StopsAt};
 
 mod connect;
 mod connecting;
 mod key;
 mod options;
+mod renew;
+mod renewing;
 mod serve;
 mod serving;
 
@@ -26,6 +28,8 @@ use connect::{connect_command, connecting_in};
 pub use connecting::Connecting;
 use key::key_command;
 use options::text_in;
+use renew::{renew_command, renewing_in};
+pub use renewing::Renewing;
 use serve::{serve_command, serving_in};
 pub use serving::Serving;
 use std::alloc::{AllocError, Global};
@@ -66,7 +70,8 @@ the verdict is clean.
 
 `bayou run --help` has each line of a script, `bayou net --help` how a script is run over sockets, with journals in files,
 `bayou audit --help` each line of an audit file, `bayou serve --help` how one server is kept at a socket for clients of any kind,
-`bayou connect --help` how a person writes and reads at such servers, and `bayou key --help` how a store is kept from strangers.
+`bayou connect --help` how a person writes and reads at such servers, `bayou key --help` how a store is kept from strangers, and
+`bayou renew --help` how a store goes on once its log is full.
 Exit status: 0 nothing is wrong; 1 a verdict is broken; 2 the input or the command line is refused, or a verdict is; 3 memory, a
 device, the network, the input or the output failed.
 docs/TROUBLE.md says what to do about each fault; examples/ has scripts and audit files to begin from."#;
@@ -259,6 +264,8 @@ pub enum Task<'a> {
     Connect(Connecting<'a>),
     /// To make the key of a store of this name, in this file. The name may still be one of nothing.
     Key { name: &'a str, file: &'a str },
+    /// To make the journal of a new store, of one that goes on no more.
+    Renew(Renewing<'a>),
 }
 
 /// Why the words name no task.
@@ -361,6 +368,7 @@ fn bayou_command<'a>(alloc: Global) -> Result<Command<'a>, AllocError>
         .subcommand(serve_command(alloc)?)?
         .subcommand(connect_command(alloc)?)?
         .subcommand(key_command(alloc)?)?
+        .subcommand(renew_command(alloc)?)?
         .subcommand(audit_command(alloc)?)
 }
 
@@ -400,6 +408,7 @@ fn task_in<'a>(alloc: Global, matches: &ArgMatches<'a>) -> Result<Task<'a>, Allo
             name: text_in(found, "name"),
             file: text_in(found, "FILE"),
         },
+        Some(("renew", found)) => Task::Renew(renewing_in(alloc, found)?),
         Some((_, found)) => Task::Run(source_in(found)),
         None => Task::Run(Source::Standard),
     })
@@ -569,4 +578,29 @@ pub fn keys_are_named()
     ensures file_unnamed { faults_of (key_words (codes "--name" ∷ codes "n" ∷ [] ∷ [])) ≡ ErrorKind.InvalidValue ∷ [] }
     ensures name_twice { faults_of (key_words (codes "--name" ∷ codes "n" ∷ codes "--name" ∷ codes "n" ∷ codes "f" ∷ [])) ≡ ErrorKind.ArgumentConflict ∷ [] }
     ensures two_files { faults_of (key_words (codes "--name" ∷ codes "n" ∷ codes "f" ∷ codes "g" ∷ [])) ≡ ErrorKind.UnknownArgument ∷ [] }
+{}
+
+/// A law: `bayou renew` with the options that it must have, in any order, asks for the journal of a new store, with as many servers as the old one has, and
+/// with each other option as it is given. Without one of those that it must have, with a number out of its range, with one of them twice, with a folder of no
+/// name or with a word that is no option it is refused. What stands behind `--at=` and `--without=` is taken as it stands, and the prefixes in their order.
+pub fn renewals_are_named()
+    ensures plain { AskFor (renew_with []) (a_renewal plain_renewal) }
+    ensures turned { AskFor (renew_words (codes "--at=1,2,3" ∷ codes "--to=n" ∷ codes "--dir=d" ∷ codes "--servers=3" ∷ codes "--id=1" ∷ [])) (a_renewal plain_renewal) }
+    ensures servers_then { AskFor (renew_with (codes "--servers-then" ∷ codes "4" ∷ [])) (a_renewal (record plain_renewal { servers_then = 4 })) }
+    ensures without { AskFor (renew_with (codes "--without" ∷ codes "a/" ∷ codes "--without" ∷ codes "b" ∷ [])) (a_renewal (record plain_renewal { without = codes "a/" ∷ codes "b" ∷ [] })) }
+    ensures full { AskFor (renew_with (codes "--full" ∷ [])) (a_renewal (record plain_renewal { is_full = true })) }
+    ensures whole { AskFor (renew_with (codes "--full" ∷ codes "--without" ∷ codes "a/" ∷ codes "--servers-then" ∷ codes "2" ∷ [])) (a_renewal (record plain_renewal { servers_then = 2; without = codes "a/" ∷ []; is_full = true })) }
+    ensures taken { (text first second : List ℕ) → AskFor (renew_words (codes "--id" ∷ codes "1" ∷ codes "--servers" ∷ codes "3" ∷ codes "--dir" ∷ codes "d" ∷ codes "--to" ∷ codes "n" ∷ (codes "--at=" ++ text) ∷ (codes "--without=" ++ first) ∷ (codes "--without=" ++ second) ∷ [])) (a_renewal (record plain_renewal { at = text; without = first ∷ second ∷ [] })) }
+    ensures bare { faults_of (renew_words []) ≡ ErrorKind.MissingRequiredArgument ∷ [] }
+    ensures no_id { faults_of (renew_words (codes "--servers" ∷ codes "3" ∷ codes "--dir" ∷ codes "d" ∷ codes "--to" ∷ codes "n" ∷ codes "--at" ∷ codes "1,2,3" ∷ [])) ≡ ErrorKind.MissingRequiredArgument ∷ [] }
+    ensures no_servers { faults_of (renew_words (codes "--id" ∷ codes "1" ∷ codes "--dir" ∷ codes "d" ∷ codes "--to" ∷ codes "n" ∷ codes "--at" ∷ codes "1,2,3" ∷ [])) ≡ ErrorKind.MissingRequiredArgument ∷ [] }
+    ensures no_dir { faults_of (renew_words (codes "--id" ∷ codes "1" ∷ codes "--servers" ∷ codes "3" ∷ codes "--to" ∷ codes "n" ∷ codes "--at" ∷ codes "1,2,3" ∷ [])) ≡ ErrorKind.MissingRequiredArgument ∷ [] }
+    ensures no_to { faults_of (renew_words (codes "--id" ∷ codes "1" ∷ codes "--servers" ∷ codes "3" ∷ codes "--dir" ∷ codes "d" ∷ codes "--at" ∷ codes "1,2,3" ∷ [])) ≡ ErrorKind.MissingRequiredArgument ∷ [] }
+    ensures no_at { faults_of (renew_words (codes "--id" ∷ codes "1" ∷ codes "--servers" ∷ codes "3" ∷ codes "--dir" ∷ codes "d" ∷ codes "--to" ∷ codes "n" ∷ [])) ≡ ErrorKind.MissingRequiredArgument ∷ [] }
+    ensures then_below { faults_of (renew_with (codes "--servers-then" ∷ codes "0" ∷ [])) ≡ ErrorKind.ValueValidation ∷ [] }
+    ensures then_above { faults_of (renew_with (codes "--servers-then" ∷ codes "17" ∷ [])) ≡ ErrorKind.ValueValidation ∷ [] }
+    ensures nowhere { faults_of (renew_words (codes "--id" ∷ codes "1" ∷ codes "--servers" ∷ codes "3" ∷ codes "--dir" ∷ codes "d" ∷ codes "--to" ∷ [] ∷ codes "--at" ∷ codes "1,2,3" ∷ [])) ≡ ErrorKind.InvalidValue ∷ [] }
+    ensures at_twice { faults_of (renew_with (codes "--at" ∷ codes "1,2,3" ∷ [])) ≡ ErrorKind.ArgumentConflict ∷ [] }
+    ensures no_option { faults_of (renew_with (codes "--walk" ∷ [])) ≡ ErrorKind.UnknownArgument ∷ [] }
+    ensures word { faults_of (renew_with (codes "more" ∷ [])) ≡ ErrorKind.UnknownArgument ∷ [] }
 {}

@@ -49,12 +49,25 @@ pub(crate) fn flag<'a>(alloc: Global, name: &'a str, help: &'a str) -> Arg<'a>
         .help(help)
 }
 
+/// An option that names a file or a folder, which the usage calls `value`: its name has a byte.
+pub(crate) fn named_option<'a>(
+    alloc: Global,
+    name: &'a str,
+    value: &'a str,
+    help: &'a str,
+) -> Arg<'a>
+    ensures rule { rule_of result ≡ file_option_rule name.entry.now }
+    ensures local { result.global ≡ false }
+{
+    value_option(alloc, name, value, help).value_parser(ValueParser::NonEmptyString)
+}
+
 /// An option that names a file.
 pub(crate) fn file_option<'a>(alloc: Global, name: &'a str, help: &'a str) -> Arg<'a>
     ensures rule { rule_of result ≡ file_option_rule name.entry.now }
     ensures local { result.global ≡ false }
 {
-    value_option(alloc, name, "FILE", help).value_parser(ValueParser::NonEmptyString)
+    named_option(alloc, name, "FILE", help)
 }
 
 /// The number that an option gives, if it is there. No command is entered with one out of its range.

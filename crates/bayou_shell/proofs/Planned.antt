@@ -4,10 +4,15 @@ use Rattle.std.specs.List.{AllZip}
 use Rattle.std.specs.Option.{option_copied}
 use denote.Ref.{Bor}
 use Rattle.bayou_command.specs.Connect.{Connection}
+use Rattle.bayou_command.specs.Renew.{Renewal as Asking}
 use Rattle.bayou_command.specs.Serve.{Service}
 use Rattle.bayou_connect.specs.Plans.{AskedBy, IsLeast, IsWrong, SaysPlace}
 use Rattle.bayou_connect.specs.declared.plan.Plan.{Plan as Places}
 use Rattle.bayou_connect.specs.declared.plan.PlanFault.{PlanFault as Wrong}
+use Rattle.bayou_renew.specs.Words.{Refuses as RefusesPlan, SaysPrefix, most_of}
+use Rattle.bayou_renew.specs.declared.plan.Plan.{Plan as Renewing}
+use Rattle.bayou_renew.specs.declared.plan.PlanFault.{PlanFault as Unfit}
+use Rattle.bayou_renew.specs.declared.plan.PlanFault.TheVariants as unfit
 use Rattle.bayou_serve.specs.Beginnings.{beginning_of}
 use Rattle.bayou_serve.specs.Words.{Refuses, SaysListen, SaysPeer, SaysServer}
 use Rattle.bayou_serve.specs.declared.plan.Habits.{Habits}
@@ -15,6 +20,7 @@ use Rattle.bayou_serve.specs.declared.plan.Plan.{Plan}
 use Rattle.bayou_serve.specs.declared.plan.PlanFault.{PlanFault}
 use Rattle.bayou_serve.specs.declared.plan.PlanFault.TheVariants.{NoServer, NoAddress, OpenToAnyone, NoPeer, SamePeer, TwoBeginnings, NoOther, NothingRestored, Unnamed, OutOfMemory}
 use Rattle.bayou_shell.specs.Plans.{IsPlanOf, IsPlanOfPlaces, RefusesConnection, RefusesService, RefusesWords}
+use Rattle.bayou_shell.specs.Renewals.{IsWishOf, RefusesRenewal}
 
 -- what is said of each word is said of each text
 pub zip_seen : {B : Type 0} (R : List ℕ → B → Type 0) (words : List (Bor (List ℕ))) (ys : List B) → AllZip (λ word y. R word.now y) words ys → AllZip R (map (λ word. word.now) words) ys
@@ -117,3 +123,39 @@ places_of connection words asks result kept named asked said same counts wants w
       count = counts;
       asks = subst (λ (text : Option (List ℕ)). AskedBy text plan.asks) (copied asks ∙ sym asked) wants;
     }
+
+-- ---- journals of new stores
+
+refused_wish : (asked : Asking) (fault : Unfit) → RefusesPlan asked.id asked.servers asked.servers_then asked.without fault → fault ≢ unfit.OutOfMemory → RefusesRenewal asked fault
+refused_wish asked unfit.NoServer is known = is
+refused_wish asked unfit.LeftOut is known = is
+refused_wish asked unfit.NoCounts is known = is
+refused_wish asked unfit.NoPrefix is known = is
+refused_wish asked unfit.SameFolder is known = absurd is
+refused_wish asked unfit.OutOfMemory is known = absurd (known refl)
+
+pub wish_of : (asked : Asking) (words : List (Bor (List ℕ))) (result kept : Result Renewing Unfit) → asked.without ≡ map (λ word. word.now) words
+    → IfOk result (λ plan. (plan.id.index ≡ asked.id) × (plan.servers ≡ asked.servers) × (plan.servers_then ≡ asked.servers_then))
+    → IfOk result (λ plan. AllZip (λ word prefix. SaysPrefix word.now prefix) words plan.wish.without.items)
+    → IfOk result (λ plan. plan.wish.most ≡ most_of asked.is_full)
+    → IfErr result (RefusesPlan asked.id asked.servers asked.servers_then (map (λ word. word.now) words))
+    → kept ≡ result → IfErr kept (λ fault. fault ≢ unfit.OutOfMemory)
+    → MatchResult kept (IsWishOf asked) (RefusesRenewal asked)
+wish_of asked words result kept named whose said most why is known =
+    subst (λ (r : Result Renewing Unfit). MatchResult r (IsWishOf asked) (RefusesRenewal asked)) (sym is)
+    (of_result result whose said most why (subst (λ (r : Result Renewing Unfit). IfErr r (λ fault. fault ≢ unfit.OutOfMemory)) is known))
+  where
+    of_result : (result : Result Renewing Unfit) → IfOk result (λ plan. (plan.id.index ≡ asked.id) × (plan.servers ≡ asked.servers) × (plan.servers_then ≡ asked.servers_then))
+        → IfOk result (λ plan. AllZip (λ word prefix. SaysPrefix word.now prefix) words plan.wish.without.items)
+        → IfOk result (λ plan. plan.wish.most ≡ most_of asked.is_full)
+        → IfErr result (RefusesPlan asked.id asked.servers asked.servers_then (map (λ word. word.now) words))
+        → IfErr result (λ fault. fault ≢ unfit.OutOfMemory) → MatchResult result (IsWishOf asked) (RefusesRenewal asked)
+    of_result (Ok plan) whose said most why known = record {
+      id = whose.0;
+      servers = whose.1;
+      servers_then = whose.2;
+      without = subst (λ (prefixes : List (List ℕ)). AllZip SaysPrefix prefixes plan.wish.without.items) (sym named) (zip_seen SaysPrefix words plan.wish.without.items said);
+      most = most;
+    }
+    of_result (Err fault) whose said most why known =
+        refused_wish asked fault (subst (λ (prefixes : List (List ℕ)). RefusesPlan asked.id asked.servers asked.servers_then prefixes fault) (sym named) why) known

@@ -2,8 +2,9 @@
 use Rattle.std.specs.Prelude.{◌≡◌, ◌<◌, ℕ, Bool, List, Option, IfErr, IfSome, Result, Ok, Err}
 use Rattle.std.specs.Io.KnownBytes.{Appends, Keeps}
 use Rattle.bayou_command.specs.Connect.{Connection}
+use Rattle.bayou_command.specs.Renew.{Renewal as Asking}
 use Rattle.bayou_command.specs.Serve.{Service}
-use Rattle.bayou_command.specs.Words.{AreMistaken, AskForText, Asked, Input, a_connect, a_key, a_net, a_run, a_serve, an_audit, standard}
+use Rattle.bayou_command.specs.Words.{AreMistaken, AskForText, Asked, Input, a_connect, a_key, a_net, a_renewal, a_run, a_serve, an_audit, standard}
 use Rattle.bayou_print.specs.declared.ended.Ended.{Ended}
 use Rattle.bayou_print.specs.declared.fault.RunFault.{RunFault}
 use Rattle.bayou_print.specs.declared.fault.RunFault.TheVariants.{Line, Memory, Device, Network, Output}
@@ -14,9 +15,10 @@ use Rattle.bayou_print.specs.Turns.{EndsReading}
 use Rattle.bayou_shell.specs.Audit.{AuditsAs}
 use Rattle.bayou_shell.specs.Net.{NetsAs}
 use Rattle.bayou_shell.specs.Plans.{IsCallOf, IsKeyOf, IsServiceOf}
+use Rattle.bayou_shell.specs.Renewals.{IsRenewalOf}
 use Rattle.bayou_shell.specs.Run.{RunsAs}
 use Rattle.bayou_shell.specs.declared.errand.Errand.{Errand}
-use Rattle.bayou_shell.specs.declared.errand.Errand.TheVariants.{Connect, Done, Key, Net, Serve}
+use Rattle.bayou_shell.specs.declared.errand.Errand.TheVariants.{Connect, Done, Key, Net, Renew, Serve}
 use Rattle.bayou_streams.specs.Account.{Account}
 use Rattle.bayou_streams.specs.Written.{AppendsFront}
 
@@ -63,6 +65,7 @@ ServesAs wanted (Ok (Done status)) old new = ⊥
 ServesAs wanted (Ok (Net folder script)) old new = ⊥
 ServesAs wanted (Ok (Connect call)) old new = ⊥
 ServesAs wanted (Ok (Key wish)) old new = ⊥
+ServesAs wanted (Ok (Renew renewal)) old new = ⊥
 ServesAs wanted (Err fault) old new = (fault ≡ Memory) × Keeps old new
 
 -- The servers are left to be asked what lines say, as the words say; or memory ran out. Nothing is printed yet.
@@ -72,6 +75,7 @@ ConnectsAs wanted (Ok (Done status)) old new = ⊥
 ConnectsAs wanted (Ok (Net folder script)) old new = ⊥
 ConnectsAs wanted (Ok (Serve service)) old new = ⊥
 ConnectsAs wanted (Ok (Key wish)) old new = ⊥
+ConnectsAs wanted (Ok (Renew renewal)) old new = ⊥
 ConnectsAs wanted (Err fault) old new = (fault ≡ Memory) × Keeps old new
 
 -- The key is left to be made, as the words say; or memory ran out. Nothing is printed yet.
@@ -81,7 +85,18 @@ KeysAs name file (Ok (Done status)) old new = ⊥
 KeysAs name file (Ok (Net folder script)) old new = ⊥
 KeysAs name file (Ok (Serve service)) old new = ⊥
 KeysAs name file (Ok (Connect call)) old new = ⊥
+KeysAs name file (Ok (Renew renewal)) old new = ⊥
 KeysAs name file (Err fault) old new = (fault ≡ Memory) × Keeps old new
+
+-- The journal is left to be made, as the words say; or memory ran out. Nothing is printed yet.
+abbrev pub RenewsAs : Asking → Result Errand RunFault → (old new : Option (List ℕ)) → Type 0
+RenewsAs wanted (Ok (Renew renewal)) old new = IsRenewalOf wanted renewal × Keeps old new
+RenewsAs wanted (Ok (Done status)) old new = ⊥
+RenewsAs wanted (Ok (Net folder script)) old new = ⊥
+RenewsAs wanted (Ok (Serve service)) old new = ⊥
+RenewsAs wanted (Ok (Connect call)) old new = ⊥
+RenewsAs wanted (Ok (Key wish)) old new = ⊥
+RenewsAs wanted (Err fault) old new = (fault ≡ Memory) × Keeps old new
 
 -- what becomes of what is asked for on an input of these bytes
 abbrev pub Works : Asked → List ℕ → Result Errand RunFault → (old new : Option (List ℕ)) → Type 0
@@ -91,6 +106,7 @@ Works (a_net folder source) input came old new = NetsAs folder input came old ne
 Works (a_serve service) input came old new = ServesAs service came old new
 Works (a_connect connection) input came old new = ConnectsAs connection came old new
 Works (a_key name file) input came old new = KeysAs name file came old new
+Works (a_renewal wanted) input came old new = RenewsAs wanted came old new
 
 -- what is left to be done then: nothing where a fault was told
 abbrev pub errand_of : Result Errand RunFault → Errand
@@ -104,6 +120,7 @@ IsWell (Net folder script) = Unit {0}
 IsWell (Serve service) = Unit {0}
 IsWell (Connect call) = Unit {0}
 IsWell (Key wish) = Unit {0}
+IsWell (Renew renewal) = Unit {0}
 
 abbrev pub input_of_asked : Asked → Input
 input_of_asked (a_run source) = source
@@ -112,6 +129,7 @@ input_of_asked (a_net folder source) = source
 input_of_asked (a_serve service) = standard
 input_of_asked (a_connect connection) = standard
 input_of_asked (a_key name file) = standard
+input_of_asked (a_renewal wanted) = standard
 
 -- What becomes of what is asked for on a file: the file may be refused, or memory may run out before it is opened, and nothing is printed;
 -- else it is done on what a reader of it gives, which is at fault only where a call of it failed or no turn was left.

@@ -1,6 +1,7 @@
 //! What the words leave to be done.
 use crate::connected::Call;
 use crate::keyed::NewKey;
+use crate::renewed::Renewal;
 use crate::served::Service;
 use bayou_script::NetworkScript;
 
@@ -20,4 +21,6 @@ pub enum Errand {
     Connect(Call),
     /// To make a key.
     Key(NewKey),
+    /// To make the journal of a new store.
+    Renew(Renewal),
 }

@@ -4,8 +4,8 @@
 //! the writer holds before and after: `RunsAs` of a run, `AuditsAs` of an audit. The whole input is read, and checked by
 //! `bayou_script` as it comes, before anything runs. Where it is refused, nothing is printed, and the least line with a fault is
 //! told; where a fault comes later, a front of what is to be printed is printed. What a run prints are the lines of its answers
-//! (`bayou_machine`). A run over sockets, a server that is to live, a person's session and a key are left to be done ([`Errand`]), as
-//! the words and the script say. Which lines a run over sockets prints then, no clause says: they are put behind what the writer
+//! (`bayou_machine`). A run over sockets, a server that is to live, a person's session, a key and a renewal are left to be
+//! done ([`Errand`]), as the words and the script say. Which lines a run over sockets prints then, no clause says: they are put behind what the writer
 //! holds, and nothing else is done there.
 //!
 //! Streams come as `bayou_streams`' `CountedChannel` and `Output`, which alone call them: an input is read in at most
@@ -26,6 +26,7 @@ mod logging;
 pub mod net;
 pub mod program;
 mod reading;
+pub mod renewed;
 pub mod run;
 pub mod served;
 mod telling;
@@ -37,5 +38,6 @@ pub use files::Files;
 pub use keyed::{NewKey, run_key};
 pub use net::run_net;
 pub use program::{refuse_words, run_main};
+pub use renewed::{Renewal, run_renewed};
 pub use run::run_script;
 pub use served::{Service, run_served};

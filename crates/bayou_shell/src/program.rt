@@ -18,6 +18,7 @@ use crate::errand::Errand;
 use crate::files::Files;
 use crate::keyed::NewKey;
 use crate::net::read_net;
+use crate::renewed::Renewal;
 use crate::run::run_script;
 use crate::served::Service;
 use crate::telling::tell;
@@ -59,7 +60,7 @@ pub fn refuse_words<E: Write>(errors: &mut Output<E>, error: &io::Error) -> u8
     REFUSED
 }
 
-/// Where the input of a task comes from. A server that is to live and a key have none, and lines for servers are read only as they are done: for these it
+/// Where the input of a task comes from. A server that is to live, a key and a renewal have none, and lines for servers are read only as they are done: for these it
 /// is the standard input, which isn't read.
 fn source_of<'a>(task: &Task<'a>) -> Source<'a>
     ensures { input_seen result ≡ input_of_asked (task_seen task.now) }
@@ -67,7 +68,7 @@ fn source_of<'a>(task: &Task<'a>) -> Source<'a>
     match task {
         Task::Run(source) | Task::Audit(source) => *source,
         Task::Net { script, .. } => *script,
-        Task::Serve(_) | Task::Connect(_) | Task::Key { .. } => Source::Standard,
+        Task::Serve(_) | Task::Connect(_) | Task::Key { .. } | Task::Renew(_) => Source::Standard,
     }
 }
 
@@ -101,6 +102,7 @@ fn work<R: Read, W: Write>(
         Task::Serve(serving) => Ok(Errand::Serve(Service::of(alloc, &serving)?)),
         Task::Connect(connecting) => Ok(Errand::Connect(Call::of(alloc, &connecting)?)),
         Task::Key { name, file } => Ok(Errand::Key(NewKey::of(alloc, name, file)?)),
+        Task::Renew(renewing) => Ok(Errand::Renew(Renewal::of(alloc, &renewing)?)),
     }
 }
 

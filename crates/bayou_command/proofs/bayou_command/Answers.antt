@@ -11,5 +11,6 @@ returns c =
     let third = c.in_ok-subcommand-3.ensures.shape c.in_ok-serve_command.ensures.local ∙ ap₂ with_subcommand second (ap top c.in_ok-serve_command.ensures.app) in
     let fourth = c.in_ok-subcommand-4.ensures.shape c.in_ok-connect_command.ensures.local ∙ ap₂ with_subcommand third (ap top c.in_ok-connect_command.ensures.app) in
     let fifth = c.in_ok-subcommand-5.ensures.shape c.in_ok-key_command.ensures.local ∙ ap₂ with_subcommand fourth (ap top c.in_ok-key_command.ensures.app) in
-    IfOk-weaker c.subcommand-6.result _ _
-    (λ command h. h.shape c.in_ok-audit_command.ensures.local ∙ ap₂ with_subcommand fifth (ap top c.in_ok-audit_command.ensures.app)) c.subcommand-6.ensures
+    let sixth = c.in_ok-subcommand-6.ensures.shape c.in_ok-renew_command.ensures.local ∙ ap₂ with_subcommand fifth (ap top c.in_ok-renew_command.ensures.app) in
+    IfOk-weaker c.subcommand-7.result _ _
+    (λ command h. h.shape c.in_ok-audit_command.ensures.local ∙ ap₂ with_subcommand sixth (ap top c.in_ok-audit_command.ensures.app)) c.subcommand-7.ensures
