@@ -60,6 +60,10 @@ def chained(header, bodies):
     return b"".join(entries)
 
 
+# What is told where a log is full.
+FULL = "bayou: the log is full: start its server with a greater --limit, or go on at a new store, which `bayou renew` makes (docs/SERVE.md)"
+
+
 class Listening:
     """Serves at a port of its own, in a thread of its own."""
 
@@ -1019,6 +1023,16 @@ class Tries(Standings):
         self.that("has no label", os.path.exists(open_state + ".store"), False)
         self.stop_all()
 
+    def full(self):
+        """A Write that a full log refuses is told with what to do then; reads are served, and nothing is told of them."""
+        server = self.start(self.folder(), words=["--limit", "2"])
+        at = [(0, server.address())]
+        self.row("a log gets full", at, ["put a 1", "put b 2", "put c 3", "get a"],
+                 ["0 wrote 0:1 clock 1 deps 0", "0 wrote 0:2 clock 2 deps 1", "0 refused full", "0 read a num 1 at 2"], 1, [FULL])
+        self.row("each Write is refused", at, ["del a", "put d 4"], ["0 refused full", "0 refused full"], 1, [FULL, FULL])
+        self.row("a read is served", at, ["get b", "list"], ["0 read b num 2 at 2", "a num 1", "b num 2", "list keys 2 at 2"])
+        self.stop_all()
+
     def calendar(self):
         """The day of examples/calendar: three servers, each apart in turn, and what a person prints at each."""
         folder = self.folder()
@@ -1065,7 +1079,7 @@ class Tries(Standings):
         self.that("server %d is apart again" % to, again.serving() is not None)
 
 
-GROUPS = ["words", "logged", "lines", "values", "claims", "additions", "words_of_lines", "silent", "dripped", "unbelievable", "pages", "never_back", "in_python", "outcomes", "turns", "lost", "asks", "lists", "guarantees_alone", "kept", "grown", "killed", "finals", "out_of_order", "one_room", "one_room_killed", "killed_waiting", "forgotten", "guarantees", "drawn", "strangers", "keyed", "calendar"]
+GROUPS = ["words", "logged", "lines", "values", "claims", "additions", "words_of_lines", "silent", "dripped", "unbelievable", "pages", "never_back", "in_python", "outcomes", "turns", "lost", "asks", "lists", "guarantees_alone", "kept", "grown", "killed", "finals", "out_of_order", "one_room", "one_room_killed", "killed_waiting", "forgotten", "guarantees", "drawn", "strangers", "keyed", "full", "calendar"]
 
 
 def main():

@@ -28,6 +28,8 @@ sys.path.insert(0, os.path.join("..", "clients", "python"))
 import bayou  # noqa: E402
 
 PUT = {"update": [["put", "a", 1]]}
+# What is told of a log that fills up.
+HOW_ON = "; then raise --limit, or make a new store with bayou renew"
 
 
 def numbered(number):
@@ -168,8 +170,8 @@ class Tries(Holding, Greeting, Keys, Differing, Lookups, Places):
             self.that("asked again of a full log", "accepted")
         except bayou.Full:
             self.that("a full log stays full", True)
-        self.that("told as it fills up", server.told.find("bayou: holds (18|19|20) of 20 writes", 8) is not None)
-        self.that("told as it is full", server.told.find("bayou: holds 20 of 20 writes", 8) is not None)
+        self.that("told as it fills up", server.told.find("bayou: holds (18|19|20) of 20 writes%s" % HOW_ON, 8) is not None)
+        self.that("told as it is full", server.told.find("bayou: holds 20 of 20 writes%s" % HOW_ON, 8) is not None)
 
     def repeats(self):
         """A Write whose reply was lost acts once."""

@@ -1,5 +1,5 @@
 -- Keys that are read one after another, for a claim or for themselves, and rows that are printed so.
-use Rattle.std.proofs.Common.{◌≡◌, ◌∙◌, ◌+◌, ◌<◌, ◌≤◌, ◌∷◌, ◌⊎◌, [], ℕ, List, Bool, true, false, Option, add-one, ap, drop, get_or, inl, inr, length, refl, sym}
+use Rattle.std.proofs.Common.{◌≡◌, ◌∙◌, ◌+◌, ◌<◌, ◌≤◌, ◌∷◌, [], ℕ, List, Bool, true, false, Option, add-one, ap, drop, get_or, length, refl, sym}
 use Rattle.std.proofs.Math.Seq.{drop-cons}
 use Rattle.std.proofs.lemmas.List.{drop_all}
 use Rattle.std.specs.Coded.{le_prop}
@@ -12,8 +12,7 @@ use Rattle.bayou_connect.specs.Wishing.{GetsKey, GetsKeys}
 use Rattle.bayou_connect.specs.declared.desk.Desk.{Desk}
 use Rattle.bayou_connect.specs.declared.looking.Beyond.{Beyond}
 use Rattle.bayou_connect.specs.Sessions.{own_session}
-use Rattle.bayou_streams.specs.Account.{Account, TakesBytes, account}
-use Rattle.bayou_streams.specs.declared.output.Output.{Output}
+use Rattle.bayou_streams.specs.Account.{Account, TakesBytes}
 
 -- the session of short lines, however it is known that its number is one
 abbrev pub own_of : 0 < SESSIONS → SessionId
@@ -75,8 +74,3 @@ prints_on keeps beyond row rows before line after one rest = (line, one, rest)
 -- none is left behind the last
 pub none_left : {A : Type 0} (items : List A) (at : ℕ) → length items ≤ at → drop at items ≡ []
 none_left items at within = drop_all at items within
-
--- an output that stays took nothing
-pub stays_or : {W : Type 0} (contents : W → Option (List ℕ)) (old new : Output W) (P : Type 0) → (new ≡ old) ⊎ P → (account contents new ≡ account contents old) ⊎ P
-stays_or {W} contents old new P (inl same) = inl (ap (λ (output : Output W). account contents output) same)
-stays_or {W} contents old new P (inr told) = inr told

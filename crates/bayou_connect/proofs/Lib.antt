@@ -1,3 +1,4 @@
+pub mod Around
 pub mod Claimed
 pub mod Flat
 pub mod Following

@@ -1,12 +1,8 @@
 -- As what a Write was accepted, and where it was asked last: this project's own.
 use Rattle.std.specs.Prelude.{◌≡◌, ◌≢◌, All, IsSomeAnd, List, MatchOption, Option, None, slice_get}
 use Rattle.bayou_base.specs.declared.answer.Accepted.{Accepted}
-use Rattle.bayou_base.specs.declared.server.ServerId.{ServerId}
-use Rattle.bayou_base.specs.declared.session.SessionId.{SessionId}
-use Rattle.bayou_connect.specs.Sessions.{kept_of}
 use Rattle.bayou_connect.specs.declared.desk.Made.{Made}
 use Rattle.bayou_connect.specs.declared.reach.Access.{Access}
-use Rattle.bayou_connect.specs.declared.store.Store.{Store}
 use Rattle.bayou_connect.specs.declared.told.Told.{Told}
 use Rattle.bayou_connect.specs.declared.told.Told.TheVariants as told
 
@@ -24,7 +20,3 @@ IsMade accesses (told.Rows page) made = made ≡ None
 IsMade accesses (told.Fate fate) made = made ≡ None
 IsMade accesses (told.Refused fault) made = made ≡ None
 IsMade accesses told.Lost made = made ≡ None
-
--- the session's Write that may be asked again was asked at this server
-abbrev pub IsAskedAt : Store → SessionId → ServerId → Type 0
-IsAskedAt store who server = IsSomeAnd (kept_of store.sessions.items who) (λ kept. IsSomeAnd kept.asked (λ asked. asked.server ≡ server))

@@ -52,6 +52,24 @@ vector_read (told.Refused refusal) = None
 vector_read told.Away = None
 vector_read told.Lost = None
 
+-- a Write was refused, since a log is full
+abbrev pub is_refused_as_full : Told → Bool
+is_refused_as_full (told.Refused refusals.LogFull) = true
+is_refused_as_full (told.Refused (refusals.Behind vector)) = false
+is_refused_as_full (told.Refused refusals.Down) = false
+is_refused_as_full (told.Refused refusals.Journal) = false
+is_refused_as_full (told.Refused refusals.NotDown) = false
+is_refused_as_full (told.Refused (refusals.BadRecord place)) = false
+is_refused_as_full (told.Refused refusals.Lost) = false
+is_refused_as_full (told.Refused refusals.OutOfMemory) = false
+is_refused_as_full (told.Refused refusals.TagUsed) = false
+is_refused_as_full (told.Seen seen) = false
+is_refused_as_full (told.Rows page) = false
+is_refused_as_full (told.Fate fate) = false
+is_refused_as_full (told.Accepted accepted) = false
+is_refused_as_full told.Away = false
+is_refused_as_full told.Lost = false
+
 -- how an own Write is told to stand by what is news of it: where all are told, one of which there is no news may change
 abbrev pub told_as : Telling → Option Standing → Option Standing
 told_as telling.News news = news

@@ -21,6 +21,7 @@ pub mod Round
 pub mod Sessions
 pub mod Silence
 pub mod Speaking
+pub mod Standing
 pub mod Taking
 pub mod Viewing
 pub mod Wishing

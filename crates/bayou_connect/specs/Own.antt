@@ -1,6 +1,7 @@
 -- What a person is told of own Writes: this project's own.
 use Rattle.std.specs.Prelude.{◌≡◌, ◌==◌, ◌+◌, if◌then◌else◌, ℕ, zero, suc, Bool, true, false, MatchBool, MatchOption, Option, None, Some, slice_get}
 use Rattle.std.specs.Option.{option_map}
+use Rattle.bayou_base.specs.declared.limits.TheConstants.{MAX_OWN_WRITES}
 use Rattle.bayou_connect.specs.Finals.{HasForgotten, HasMade, HasTold, keeps_finals, own_in, told_as}
 use Rattle.bayou_connect.specs.declared.desk.Made.{Made}
 use Rattle.bayou_connect.specs.declared.finals.Telling.{Telling}
@@ -52,3 +53,7 @@ TellsFrom zero place telling old new before after = (new ≡ old) × (after ≡ 
 TellsFrom (suc most) place telling old new before after = MatchOption (slice_get (own_in old) place) ((new ≡ old) × (after ≡ before))
     (λ write. (gone : Bool) × (middle : Option Outlook) × (line : Account) × TellsOwn old place write telling gone middle before line
     × TellsFrom most (if gone then place else place + 1) telling middle new line after)
+
+-- How own Writes stand, by what servers told before of what they hold.
+abbrev pub TellsAsLooked : Telling → (new : Option Outlook) → (before after : Account) → Type 0
+TellsAsLooked telling new before after = (looked : Option Outlook) × TellsFrom MAX_OWN_WRITES 0 telling looked new before after

@@ -1,22 +1,41 @@
--- The lines that are said of the lines themselves: this project's own.
-use Rattle.std.specs.Prelude.{◌≡◌, ◌==◌, ℕ, Bool, List, [], if◌then◌else◌, IfOk, OnOk, Option, None, Some, Result, Ok, Err, codes}
+-- What becomes of a line: this project's own.
+use Rattle.std.specs.Prelude.{◌≡◌, ◌==◌, ◌&&◌, ◌⊎◌, ℕ, Bool, true, false, IsUtf8, List, [], ◌∷◌, if◌then◌else◌, IfOk, OnOk, MatchOption, Option, None, Some, Result, Ok, Err, codes, is_none, not, slice_get}
 use Rattle.std.specs.List.{after_first, before_first}
 use Rattle.std.specs.Str.{bytes_eq}
 use Rattle.std.specs.Str.Parse.{IsNumeral, digits_value}
+use Rattle.bayou_connect.specs.Claiming.{TellsOutcome}
+use Rattle.bayou_connect.specs.Commands.{DoesCommand, WritesAgain}
+use Rattle.bayou_connect.specs.Desks.{IsSameDesk}
+use Rattle.bayou_connect.specs.Finals.{outlook_of, own_in}
+use Rattle.bayou_connect.specs.Own.{TellsAsLooked}
+use Rattle.bayou_connect.specs.Sessions.{own_session}
+use Rattle.bayou_connect.specs.Wishing.{DoesWish}
 use Rattle.bayou_connect.specs.declared.desk.Desk.{Desk}
+use Rattle.bayou_connect.specs.declared.desk.Made.{Made}
 use Rattle.bayou_connect.specs.declared.doing.Became.{Became}
 use Rattle.bayou_connect.specs.declared.doing.Became.TheVariants as became
-use Rattle.bayou_connect.specs.declared.doing.Wrong.{Wrong}
-use Rattle.bayou_connect.specs.declared.doing.Wrong.TheVariants.{Script}
-use Rattle.bayou_connect.specs.declared.fault.ConnectFault.{ConnectFault}
-use Rattle.bayou_connect.specs.declared.fault.ConnectFault.TheVariants.{Memory}
-use Rattle.bayou_connect.specs.declared.help.TheConstants.{HELP}
-use Rattle.bayou_script.specs.declared.fault.ScriptFault.TheVariants as scripts
-use Rattle.bayou_streams.specs.Account.{Account, TakesBytes}
-use Rattle.bayou_text.specs.declared.line.LineFault.{LineFault}
-use Rattle.bayou_text.specs.declared.line.LineFault.TheVariants as lines
 use Rattle.bayou_connect.specs.declared.doing.Spoken.{Spoken}
 use Rattle.bayou_connect.specs.declared.doing.Spoken.TheVariants.{Again, Help, Mine, Wait, Quit}
+use Rattle.bayou_connect.specs.declared.doing.Wrong.{Wrong}
+use Rattle.bayou_connect.specs.declared.doing.Wrong.TheVariants.{Script, Wish as NoWish}
+use Rattle.bayou_connect.specs.declared.fault.ConnectFault.{ConnectFault}
+use Rattle.bayou_connect.specs.declared.fault.ConnectFault.TheVariants.{Memory}
+use Rattle.bayou_connect.specs.declared.finals.Telling.TheVariants.{All}
+use Rattle.bayou_connect.specs.declared.help.TheConstants.{HELP}
+use Rattle.bayou_person.specs.Wishes.{IsFaultOf, Wishes}
+use Rattle.bayou_person.specs.declared.wish.Wish.{Wish}
+use Rattle.bayou_person.specs.declared.wish.WishFault.{WishFault}
+use Rattle.bayou_person.specs.declared.wish.WishFault.TheVariants.{Word}
+use Rattle.bayou_script.specs.declared.fault.ScriptFault.TheVariants as scripts
+use Rattle.bayou_streams.specs.Account.{Account, TakesBytes}
+use Rattle.bayou_text.specs.Lines.{IsRefusalOf}
+use Rattle.bayou_text.specs.Said.{said}
+use Rattle.bayou_text.specs.Table.{Spells}
+use Rattle.bayou_text.specs.declared.line.Line.{Line}
+use Rattle.bayou_text.specs.declared.line.Line.TheVariants as read
+use Rattle.bayou_text.specs.declared.line.LineFault.{LineFault}
+use Rattle.bayou_text.specs.declared.line.LineFault.TheVariants as lines
+use Rattle.bayou_wire.specs.declared.lookup.Placed.{Placed}
 
 -- the line is such a word
 abbrev pub spoken_of : List ℕ → Option Spoken
@@ -46,13 +65,86 @@ unread_line (lines.BadShape shape) = Ok (Script scripts.BadShape)
 unread_line (lines.Key fault) = Ok (Script scripts.BadKey)
 unread_line (lines.Program fault) = Ok (Script scripts.BadProgram)
 
+-- A line of a script, read: a command is done, if it can be done here; any other line is of no use here, and nothing is done.
+abbrev pub DoesRead : Line → (old new : Desk) → (before after : Account) → (done : Bool) → Type 0
+DoesRead (read.Command command) old new before after done = DoesCommand command old new before after done
+DoesRead (read.Servers count limit) old new before after done = (done ≡ false) × (new ≡ old) × (after ≡ before)
+DoesRead (read.Audit audited) old new before after done = (done ≡ false) × (new ≡ old) × (after ≡ before)
+
+-- the line says that, and it is done, or can't be done here
+abbrev pub DoesSaid : (line : List ℕ) → (old new : Desk) → (before after : Account) → (done : Bool) → Type 0
+DoesSaid line old new before after done = (one : Line) × Spells line (said one) × DoesRead one old new before after done
+
+-- a line that isn't read, for this reason
+abbrev pub IsUnread : (line : List ℕ) → (old new : Desk) → (before after : Account) → Wrong → Type 0
+IsUnread line old new before after wrong = (fault : LineFault) × IsRefusalOf line fault × (unread_line fault ≡ Ok wrong) × (new ≡ old) × (after ≡ before)
+
+-- A line of a script, done; or it is told that it is wrong: it isn't read, or says what can't be done here.
+abbrev pub DoesScriptLine : (line : List ℕ) → (old new : Desk) → (before after : Account) → Became → Type 0
+DoesScriptLine line old new before after became.Done = DoesSaid line old new before after true
+DoesScriptLine line old new before after (became.Wrong wrong) =
+    IsUnread line old new before after wrong ⊎ ((wrong ≡ Script scripts.OutOfPlace) × DoesSaid line old new before after false)
+DoesScriptLine line old new before after became.Quit = ⊥
+DoesScriptLine line old new before after became.Ended = ⊥
+
+-- why a line is no wish: its bytes are no text, or its words say none
+abbrev pub IsNoWish : (line : List ℕ) → WishFault → Type 0
+IsNoWish line fault = ((fault ≡ Word) × ¬ (IsUtf8 line)) ⊎ IsFaultOf line fault
+
+-- A wish, done; or it is told that the line is wrong: it is none, or one that can't be done here.
+abbrev pub DoesWishLine : (line : List ℕ) → (old new : Desk) → (before after : Account) → Became → Type 0
+DoesWishLine line old new before after became.Done = (wish : Wish) × Wishes line wish × DoesWish wish old new before after true
+DoesWishLine line old new before after (became.Wrong (NoWish fault)) = IsNoWish line fault × (new ≡ old) × (after ≡ before)
+DoesWishLine line old new before after (became.Wrong (Script fault)) =
+    (fault ≡ scripts.OutOfPlace) × ((wish : Wish) × Wishes line wish × DoesWish wish old new before after false)
+DoesWishLine line old new before after became.Quit = ⊥
+DoesWishLine line old new before after became.Ended = ⊥
+
+-- It was waited until each own Write is final: that is what was asked for, unless one is left, or came to nothing.
+pub record Waits (old new : Desk) : Type 0 where
+  pub served : new.is_served ≡ (old.is_served && not new.is_void && is_none (slice_get (own_in (outlook_of new.store.views)) 0))
+  pub same : IsSameDesk old new
+
+-- the Write of short lines that may be asked again, once more; and what became of it, where it was accepted
+pub record AsksOnceMore (old new : Desk) (before after : Account) : Type 0 where
+  pub made : Option Made
+  pub wrote : Desk
+  pub line : Account
+  pub again : WritesAgain own_session old wrote before line made
+  pub rest : MatchOption made ((new ≡ wrote) × (after ≡ line)) (λ made. (placed : Option Placed) × TellsOutcome own_session made wrote new line after placed)
+
+-- a line that is no such word: to wait so many seconds, or a wish
+abbrev pub DoesOther : (line : List ℕ) → (old new : Desk) → (before after : Account) → Became → Type 0
+DoesOther line old new before after done =
+    ((seconds : ℕ) × AsksToWait line seconds × (done ≡ became.Done) × Waits old new) ⊎ DoesWishLine line old new before after done
+
+-- What a line says of the lines themselves, done: `help` prints what lines there are, and `quit` changes nothing and ends them.
+abbrev pub DoesWord : Spoken → (old new : Desk) → (before after : Account) → Became → Type 0
+DoesWord Again old new before after done = (done ≡ became.Done) × AsksOnceMore old new before after
+DoesWord Help old new before after done = (done ≡ became.Done) × (new ≡ old) × TakesBytes before after HELP.now
+DoesWord Mine old new before after done = (done ≡ became.Done) × IsSameDesk old new × (new.is_served ≡ old.is_served)
+    × TellsAsLooked All (outlook_of new.store.views) before after
+DoesWord Wait old new before after done = (done ≡ became.Done) × Waits old new
+DoesWord Quit old new before after done = (done ≡ became.Quit) × (new ≡ old) × (after ≡ before)
+
+-- a short line, done
+abbrev pub DoesShort : (line : List ℕ) → (old new : Desk) → (before after : Account) → Became → Type 0
+DoesShort line old new before after done = MatchOption (spoken_of line) (DoesOther line old new before after done) (λ word. DoesWord word old new before after done)
+
 -- Such a word, done: `quit` changes nothing and ends the lines, and no other word does; `help` prints what lines there are.
 pub record DoesSpoken (spoken : Option Spoken) (result : Result Became ConnectFault) (old new : Desk) (before after : Account) : Type 0 where
   pub quits : spoken ≡ Some Quit → (result ≡ Ok became.Quit) × (new ≡ old) × (after ≡ before)
   pub ends : IfOk result (λ done. done ≡ became.Quit → spoken ≡ Some Quit)
   pub helps : spoken ≡ Some Help → OnOk result (TakesBytes before after HELP.now) × (new ≡ old)
 
--- A line without the white space around it: a blank one does nothing, and one that begins with [ is a script's.
-pub record DoesLine (words : List ℕ) (result : Result Became ConnectFault) (old new : Desk) (before after : Account) : Type 0 where
+-- what becomes of a line that isn't blank, of which these are the bytes without the white space around them: one that begins with [ is a script's
+abbrev pub DoesLineAs : (line words : List ℕ) → (old new : Desk) → (before after : Account) → Became → Type 0
+DoesLineAs line [] old new before after done = Unit {0}
+DoesLineAs line (byte ∷ bytes) old new before after done =
+    if byte == 91 then DoesScriptLine line old new before after done else DoesShort (byte ∷ bytes) old new before after done
+
+-- What becomes of a line: a blank one does nothing.
+pub record DoesLine (line words : List ℕ) (result : Result Became ConnectFault) (old new : Desk) (before after : Account) : Type 0 where
   pub blank : words ≡ [] → (result ≡ Ok became.Done) × (new ≡ old) × (after ≡ before)
   pub spoken : DoesSpoken (spoken_of words) result old new before after
+  pub does : IfOk result (DoesLineAs line words old new before after)

@@ -1,6 +1,7 @@
 //! The lines of an input, done as they come.
 ghost use Rattle.std.specs.Prelude.{◌≡◌, ◌*◌, ◌<◌, ◌≤◌, Bool, false, IfErr, IfOk, IsSomeAnd, MatchOption, None, length, option_copied, option_map, replicate, true, vec_len};
 ghost use Rattle.bayou_base.specs.declared.limits.TheConstants.{SERVERS as SERVERS_NUMBER, SESSIONS as NUMBER};
+ghost use Rattle.bayou_connect.specs.Desks.{IsSameDesk};
 ghost use Rattle.bayou_connect.specs.Faults.{IsBookFault, IsStateFault};
 ghost use Rattle.bayou_connect.specs.declared.fault.ConnectFault.TheVariants.{Memory};
 ghost use Rattle.bayou_connect.specs.Plans.{AsksBoth, Differ};
@@ -37,6 +38,10 @@ use std::io::{Read, Write};
 use std::random::RandomSource;
 use std::sync::Wait;
 use std::time::Clock;
+
+/// What is told where a Write was refused since a log is full.
+const FULL: &str =
+    "bayou: the log is full: start its server with a greater --limit, or go on at a new store, which `bayou renew` makes (docs/SERVE.md)\n";
 
 /// Where lines come from.
 #[derive(Drop)]
@@ -120,6 +125,16 @@ fn tell_strangers<E: Write>(desk: &mut Desk, errors: &mut E) -> Result<(), Conne
     Ok(())
 }
 
+// Tells, as far as it can be told, that a Write was refused since a log is full, where that wasn't told yet.
+fn tell_full<E: Write>(desk: &mut Desk, errors: &mut E)
+    ensures { desk.new.store.is_full ≡ false }
+    ensures same { IsSameDesk desk.old desk.new }
+{
+    if desk.store.take_full() {
+        let _ = errors.write_all(FULL.as_bytes());
+    }
+}
+
 // Does the lines that the reader has left, as they come. Each that can't be done is told; it ends the input, unless a person types it.
 fn do_lines<I, W, E, T>(
     rt: &T,
@@ -149,6 +164,7 @@ where
         }
         let became = do_next(rt, desk, &mut lines, output)?;
         tell_strangers(desk, errors)?;
+        tell_full(desk, errors);
         match became {
             Became::Done => {}
             Became::Quit => break,

@@ -1,31 +1,20 @@
-//! A person's desk: what a line asks for is done, and what becomes of it is printed.
-ghost use Rattle.std.specs.Prelude.{◌≡◌, ◌≢◌, ◌<◌, ◌≤◌, ◌↔◌, ◌&&◌, false, IfOk, IfSome, IsSomeAnd, IsTrue, MatchBool, None, Ok, OnOk, Some, slice_get, slice_set, true};
-ghost use Rattle.std.specs.Bool.{OnFalse, OnTrue};
+//! A person's desk, at which lines are done, and what becomes of them is printed.
+ghost use Rattle.std.specs.Prelude.{◌≡◌, ◌<◌, ◌≤◌, ◌&&◌, false, OnOk};
 ghost use Rattle.bayou_base.specs.declared.limits.TheConstants.{SERVERS as NUMBER};
-ghost use Rattle.bayou_connect.specs.Anywhere.{AsksServer};
-ghost use Rattle.bayou_connect.specs.Claims.{IsAskedAt, IsMade, IsMadeAs};
-ghost use Rattle.bayou_connect.specs.Commands.{Operates, is_of_servers, operation_of, session_of};
+ghost use Rattle.bayou_connect.specs.Claims.{IsMade, IsMadeAs};
 ghost use Rattle.bayou_connect.specs.Printing.{is_service, nothing_text, told_text};
-ghost use Rattle.bayou_connect.specs.Sessions.{IsNumbered, IsOpenedFrom};
-ghost use Rattle.bayou_connect.specs.declared.told.Told.{Told as Answered};
+ghost use Rattle.bayou_connect.specs.Sessions.{IsNumbered};
 ghost use Rattle.bayou_streams.specs.Account.{TakesBytes, account};
 
-use crate::asking::Attempt;
 use crate::fault::ConnectFault;
 use crate::saying::{nothing_line, told_line};
 use crate::store::Store;
 use crate::told::Told;
-use bayou_answers::Answer;
-use bayou_base::{Accepted, Asks, Key, SESSIONS, ServerId, SessionId, Wid};
-use bayou_net::Sockets;
-use bayou_print::{last_line, write_text};
+use bayou_base::{Accepted, Key, SESSIONS, SessionId, Wid};
+use bayou_print::write_text;
 use bayou_streams::Output;
-use bayou_text::{Attempt as Said, Command, Operation, Trial, TrialKind};
 use std::alloc::Global;
-use std::fs::{File, Files};
 use std::io::Write;
-use std::sync::Wait;
-use std::time::Clock;
 
 /// The session of short lines.
 pub(crate) const OWN: SessionId = SessionId { index: 0 };
@@ -125,103 +114,6 @@ impl Desk {
         print(output, line.as_str())
     }
 
-    // A script's operation: at the server that it names, once.
-    fn operate_at<W: Write, T: Files<File = File> + Sockets + Wait + Clock>(
-        &mut self,
-        rt: &T,
-        output: &mut Output<W>,
-        who: SessionId,
-        server: ServerId,
-        key: Option<Key>,
-        attempt: Attempt,
-    ) -> Result<bool, ConnectFault>
-        ensures { IfOk result (λ done. MatchBool done
-            ((told : Answered) × AsksServer who server attempt self.old.store self.new.store told
-            × TakesBytes (account W.contents output.old) (account W.contents output.new) (told_text self.old.servers who key told))
-            ((self.new ≡ self.old) × (output.new ≡ output.old))) }
-    {
-        let Some(at) = self.store.place_of(server) else {
-            return Ok(false);
-        };
-        if self.store.session(who).is_none() {
-            return Ok(false);
-        }
-        let told = self.store.ask_at(rt, who, at, attempt)?;
-        self.finish(output, who, &key, told)?;
-        Ok(true)
-    }
-
-    // The Write that may be asked again, once more, or that there is none.
-    pub(crate) fn ask_again<W: Write, T: Files<File = File> + Sockets + Wait + Clock>(
-        &mut self,
-        rt: &T,
-        output: &mut Output<W>,
-        who: SessionId,
-    ) -> Result<bool, ConnectFault> {
-        let server = match self.store.session(who) {
-            None => return Ok(false),
-            Some(kept) => match kept.asked() {
-                None => None,
-                Some(asked) => Some(asked.server),
-            },
-        };
-        match server {
-            Some(server) => self.operate_at(rt, output, who, server, None, Attempt::Again),
-            None => {
-                let line = last_line(self.alloc, self.servers, &Answer::NotAgain { session: who })?;
-                print(output, line.as_str())?;
-                Ok(true)
-            }
-        }
-    }
-
-    // The server that was asked last for the session's Write that may be asked again, if it is at hand: its place.
-    fn asked_place(&self, who: SessionId) -> Option<usize>
-        ensures { IfSome result (λ at. IsSomeAnd (slice_get self.now.store.accesses.items at) (λ access. IsAskedAt self.now.store who access.place.id)) }
-    {
-        let asked = self.store.session(who)?.asked().as_ref()?;
-        self.store.place_of(asked.server)
-    }
-
-    /// The Write of short lines that may be asked again, once more. As what it was accepted, if it was.
-    pub(crate) fn write_again<W: Write, T: Files<File = File> + Sockets + Wait + Clock>(
-        &mut self,
-        rt: &T,
-        output: &mut Output<W>,
-        who: SessionId,
-    ) -> Result<Option<Made>, ConnectFault> {
-        let Some(at) = self.asked_place(who) else {
-            self.ask_again(rt, output, who)?;
-            return Ok(None);
-        };
-        let told = self.store.ask_at(rt, who, at, Attempt::Again)?;
-        let made = self.made_by(&told);
-        self.finish(output, who, &None, told)?;
-        Ok(made)
-    }
-
-    // A script's operation.
-    fn operate<W: Write, T: Files<File = File> + Sockets + Wait + Clock>(
-        &mut self,
-        rt: &T,
-        output: &mut Output<W>,
-        operation: Operation,
-    ) -> Result<bool, ConnectFault>
-        ensures { IfOk result (λ done. Operates operation self.old.servers self.old.store self.new.store (account W.contents output.old) (account W.contents output.new) done) }
-    {
-        let who = operation.session;
-        match operation.attempt {
-            Said::Write { server, program } => {
-                self.operate_at(rt, output, who, server, None, Attempt::Write(program))
-            }
-            Said::Read { server, key } => {
-                let asked = Attempt::Read(key.copy());
-                self.operate_at(rt, output, who, server, Some(key), asked)
-            }
-            Said::Again => self.ask_again(rt, output, who),
-        }
-    }
-
     // The Write that was accepted, where its server is at hand.
     fn made_of(&self, accepted: &Accepted) -> Option<Made>
         ensures { IsMadeAs self.now.store.accesses.items accepted.now result }
@@ -243,53 +135,6 @@ impl Desk {
             | Told::Fate(_)
             | Told::Refused(_)
             | Told::Lost => None,
-        }
-    }
-
-    // Opens the session, unless a line did so before.
-    fn open(&mut self, who: SessionId, asks: Asks) -> bool
-        ensures first { IsTrue result ↔ (slice_get self.old.opened who.index ≡ Some false) }
-        ensures opened { OnTrue result (IsOpenedFrom self.old.first_number who self.old.run asks self.old.store.sessions.items self.new.store.sessions.items) }
-        ensures noted { OnTrue result (self.new.opened ≡ slice_set self.old.opened who.index true) }
-        ensures same { OnFalse result (self.new ≡ self.old) }
-    {
-        let at = usize::from(who.index);
-        if self.opened[at] {
-            return false;
-        }
-        self.opened[at] = true;
-        self.store
-            .open(who, numbered(self.first_number, who), self.run, asks);
-        true
-    }
-
-    /// Does what a script's line asks for. Whether the line is in its place here.
-    pub(crate) fn command<W: Write, T: Files<File = File> + Sockets + Wait + Clock>(
-        &mut self,
-        rt: &T,
-        output: &mut Output<W>,
-        command: Command,
-    ) -> Result<bool, ConnectFault>
-        ensures opened { IfSome (session_of command) (λ (who, asks). IfOk result (λ done. MatchBool done
-            ((slice_get self.old.opened who.index ≡ Some false) × IsOpenedFrom self.old.first_number who self.old.run asks self.old.store.sessions.items self.new.store.sessions.items)
-            ((slice_get self.old.opened who.index ≢ Some false) × (self.new ≡ self.old)) × (output.new ≡ output.old))) }
-        ensures operates { IfSome (operation_of command) (λ operation. IfOk result (Operates operation self.old.servers self.old.store self.new.store (account W.contents output.old) (account W.contents output.new))) }
-        ensures others { is_of_servers command ≡ true → (result ≡ Ok false) × (self.new ≡ self.old) × (output.new ≡ output.old) }
-    {
-        match command {
-            Command::Session { session, asks } => Ok(self.open(session, asks)),
-            Command::Operation(operation) => self.operate(rt, output, operation),
-            Command::Trial(
-                Trial {
-                    server,
-                    kind: TrialKind::Reopen,
-                },
-            ) => self.reopen(rt, output, server),
-            Command::Trial(_)
-            | Command::Drop(_)
-            | Command::Exchange(_)
-            | Command::Question(_)
-            | Command::Phase => Ok(false),
         }
     }
 }

@@ -1,11 +1,8 @@
 //! A line, done.
-ghost use Rattle.std.specs.Prelude.{◌≡◌, ◌≢◌, ℕ, List, IfOk, IfSome, Ok, true};
+ghost use Rattle.std.specs.Prelude.{◌≡◌, ℕ, List, IfOk, IfSome, Ok, OnOk};
 ghost use Rattle.std.specs.Str.{IsTrimAscii};
-ghost use Rattle.bayou_connect.specs.Speaking.{AsksToWait, DoesLine, DoesSpoken, spoken_of, unread_line};
+ghost use Rattle.bayou_connect.specs.Speaking.{AsksOnceMore, AsksToWait, DoesLine, DoesOther, DoesScriptLine, DoesShort, DoesSpoken, DoesWishLine, spoken_of, unread_line};
 ghost use Rattle.bayou_connect.specs.declared.doing.Became.TheVariants as became;
-ghost use Rattle.bayou_connect.specs.Wishing.{DoesWish};
-ghost use Rattle.bayou_person.specs.Wishes.{Wishes};
-ghost use Rattle.bayou_person.specs.declared.wish.Wish.{Wish};
 ghost use Rattle.bayou_person.specs.declared.wish.WishFault.{WishFault as NoWish};
 ghost use Rattle.bayou_streams.specs.Account.{account};
 
@@ -84,7 +81,7 @@ fn do_script_line<W: Write, T: Files<File = File> + Sockets + Wait + Clock>(
     output: &mut Output<W>,
     line: &[u8],
 ) -> Result<Became, ConnectFault>
-    ensures { IfOk result (λ done. done ≢ became.Quit) }
+    ensures { IfOk result (DoesScriptLine line.now desk.old desk.new (account W.contents output.old) (account W.contents output.new)) }
 {
     let command = match read_line(desk.alloc, line) {
         Ok(Line::Command(command)) => command,
@@ -131,8 +128,7 @@ fn do_wish<W: Write, T: Files<File = File> + Sockets + Wait + Clock>(
     line: &[u8],
 ) -> Result<Became, ConnectFault>
     ensures wrong { (fault : NoWish) → result ≡ Ok (Became.Wrong (Wrong.Wish fault)) → (desk.new ≡ desk.old) × (output.new ≡ output.old) }
-    ensures does { result ≡ Ok became.Done → (wish : Wish) × Wishes line.now wish × DoesWish wish desk.old desk.new (account W.contents output.old) (account W.contents output.new) true }
-    ensures only { IfOk result (λ done. done ≢ became.Quit) }
+    ensures does { IfOk result (DoesWishLine line.now desk.old desk.new (account W.contents output.old) (account W.contents output.new)) }
 {
     let Ok(text) = str::from_utf8(line) else {
         return Ok(Became::Wrong(Wrong::Wish(WishFault::Word)));
@@ -149,6 +145,42 @@ fn do_wish<W: Write, T: Files<File = File> + Sockets + Wait + Clock>(
     }
 }
 
+// Asks the last Write again, and tells what became of it, where it was accepted.
+fn do_again<W: Write, T: Files<File = File> + Sockets + Wait + Clock>(
+    rt: &T,
+    desk: &mut Desk,
+    output: &mut Output<W>,
+) -> Result<(), ConnectFault>
+    ensures { OnOk result (AsksOnceMore desk.old desk.new (account W.contents output.old) (account W.contents output.new)) }
+{
+    let made = desk.write_again(rt, output, OWN)?;
+    match made {
+        None => Ok(()),
+        Some(made) => {
+            desk.tell_outcome(rt, output, OWN, made)?;
+            Ok(())
+        }
+    }
+}
+
+// Does a line that is no word that is said of the lines themselves: it waits, or does a wish.
+fn do_other<W: Write, T: Files<File = File> + Sockets + Wait + Clock>(
+    rt: &T,
+    desk: &mut Desk,
+    output: &mut Output<W>,
+    line: &[u8],
+) -> Result<Became, ConnectFault>
+    ensures { IfOk result (DoesOther line.now desk.old desk.new (account W.contents output.old) (account W.contents output.new)) }
+{
+    match seconds_in(line) {
+        None => do_wish(rt, desk, output, line),
+        Some(seconds) => {
+            desk.wait_for_finals(rt, output, seconds)?;
+            Ok(Became::Done)
+        }
+    }
+}
+
 // Does a short line, and tells what became of it.
 fn do_short_line<W: Write, T: Files<File = File> + Sockets + Wait + Clock>(
     rt: &T,
@@ -156,18 +188,12 @@ fn do_short_line<W: Write, T: Files<File = File> + Sockets + Wait + Clock>(
     output: &mut Output<W>,
     line: &[u8],
 ) -> Result<Became, ConnectFault>
-    ensures { DoesSpoken (spoken_of line.now) result desk.old desk.new (account W.contents output.old) (account W.contents output.new) }
+    ensures spoken { DoesSpoken (spoken_of line.now) result desk.old desk.new (account W.contents output.old) (account W.contents output.new) }
+    ensures does { IfOk result (DoesShort line.now desk.old desk.new (account W.contents output.old) (account W.contents output.new)) }
 {
     match spoken_in(line) {
-        None => match seconds_in(line) {
-            None => return do_wish(rt, desk, output, line),
-            Some(seconds) => desk.wait_for_finals(rt, output, seconds)?,
-        },
-        Some(Spoken::Again) => {
-            if let Some(made) = desk.write_again(rt, output, OWN)? {
-                desk.tell_outcome(rt, output, OWN, made)?;
-            }
-        }
+        None => return do_other(rt, desk, output, line),
+        Some(Spoken::Again) => do_again(rt, desk, output)?,
         Some(Spoken::Help) => print(output, HELP)?,
         Some(Spoken::Mine) => desk.tell_finals(rt, output, Telling::All)?,
         Some(Spoken::Wait) => desk.wait_for_finals(rt, output, WAIT_SECONDS)?,
@@ -183,7 +209,7 @@ pub(crate) fn do_line<W: Write, T: Files<File = File> + Sockets + Wait + Clock>(
     output: &mut Output<W>,
     line: &[u8],
 ) -> Result<Became, ConnectFault>
-    ensures { (words : List ℕ) × IsTrimAscii line.now words × DoesLine words result desk.old desk.new (account W.contents output.old) (account W.contents output.new) }
+    ensures { (words : List ℕ) × IsTrimAscii line.now words × DoesLine line.now words result desk.old desk.new (account W.contents output.old) (account W.contents output.new) }
 {
     match line.trim_ascii() {
         [] => Ok(Became::Done),

@@ -1,13 +1,13 @@
 //! What a person is told of what is final.
-ghost use Rattle.std.specs.Prelude.{◌≡◌, ◌+◌, ◌-◌, ◌^◌, ◌⊎◌, ◌&&◌, ◌||◌, [], if◌then◌else◌, IfOk, MatchOption, None, Ok, OnOk, Some, is_none, min, not, option_map, slice_get, true};
+ghost use Rattle.std.specs.Prelude.{◌≡◌, ◌+◌, ◌^◌, ◌&&◌, ◌||◌, [], if◌then◌else◌, IfOk, None, Ok, OnOk, Some, is_none, min, not, slice_get, true};
 ghost use Rattle.bayou_connect.specs.Beyond.{standing_at};
 ghost use Rattle.bayou_connect.specs.Desks.{IsSameDesk};
 ghost use Rattle.bayou_connect.specs.Finals.{is_void_for_good, keeps_finals, outlook_of, own_in, told_as};
-ghost use Rattle.bayou_connect.specs.Own.{KeepsOwn, TellsFrom, TellsOwn, own_write};
+ghost use Rattle.bayou_connect.specs.Own.{KeepsOwn, TellsAsLooked, TellsFrom, TellsOwn, own_write};
+ghost use Rattle.bayou_connect.specs.Standing.{TellsKeyStanding};
 ghost use Rattle.bayou_connect.specs.declared.finals.Telling.TheVariants.{News};
-ghost use Rattle.bayou_final.specs.declared.standing.Standing.{Standing as Stands};
 ghost use Rattle.bayou_base.specs.declared.limits.TheConstants.{MAX_OWN_WRITES as MOST};
-ghost use Rattle.bayou_print.specs.Standing.{forgotten_text, key_standing_text, standing_text};
+ghost use Rattle.bayou_print.specs.Standing.{forgotten_text, standing_text};
 ghost use Rattle.bayou_streams.specs.Account.{TakesBytes, account};
 
 use crate::desk::{Desk, Made, OWN, print};
@@ -190,6 +190,7 @@ impl Desk {
         telling: Telling,
     ) -> Result<(), ConnectFault>
         ensures none { telling ≡ News → own_in (outlook_of self.old.store.views) ≡ [] → (result ≡ Ok tt) × (self.new ≡ self.old) × (output.new ≡ output.old) }
+        ensures told { OnOk result (TellsAsLooked telling (outlook_of self.new.store.views) (account W.contents output.old) (account W.contents output.new)) }
         ensures same { IsSameDesk self.old self.new × (self.new.is_served ≡ self.old.is_served) }
     {
         if telling == Telling::News && self.store.own_at(0).is_none() {
@@ -246,7 +247,7 @@ impl Desk {
         output: &mut Output<W>,
         key: &Key,
     ) -> Result<(), ConnectFault>
-        ensures printed { OnOk result ((output.new ≡ output.old) ⊎ ((standing : Stands) × TakesBytes (account W.contents output.old) (account W.contents output.new) (key_standing_text 0 standing key.now))) }
+        ensures printed { OnOk result (TellsKeyStanding key.now self.old self.new (account W.contents output.old) (account W.contents output.new)) }
         ensures none { self.old.store.views ≡ None → (result ≡ Ok tt) × (output.new ≡ output.old) }
         ensures same { IsSameDesk self.old self.new × (self.new.is_served ≡ self.old.is_served) }
     {

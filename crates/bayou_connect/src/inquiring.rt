@@ -1,13 +1,10 @@
 //! What is asked of servers beside a session's operations.
-ghost use Rattle.std.specs.Prelude.{◌≡◌, ◌≢◌, ◌&&◌, List, ℕ, All, IfOk, MatchBool, MatchOption, None, Ok, OnOk, Option, Result, false, is_some};
-ghost use Rattle.bayou_base.specs.declared.wid.Wid.{Wid as Name};
-ghost use Rattle.bayou_client.specs.declared.fault.LinkFault.{LinkFault as Fault};
-ghost use Rattle.bayou_connect.specs.Desks.{IsSameDesk, IsSameSeat};
+ghost use Rattle.std.specs.Prelude.{◌≡◌, IfOk, OnOk};
+ghost use Rattle.bayou_connect.specs.Commands.{Reopens};
+ghost use Rattle.bayou_connect.specs.Desks.{IsSameDesk};
 ghost use Rattle.bayou_connect.specs.Operating.{recovery_told};
-ghost use Rattle.bayou_connect.specs.Printing.{IsAsksLine, is_reopened, reopened_text};
-ghost use Rattle.bayou_connect.specs.Sessions.{kept_of, own_session};
-ghost use Rattle.bayou_print.specs.Connected.{seat_text};
-ghost use Rattle.bayou_streams.specs.Account.{Account, TakesBytes, account};
+ghost use Rattle.bayou_connect.specs.Wishing.{DumpServers, Dumps, DumpsServer, TellServers, TellsServer, TellsSession, servers_at};
+ghost use Rattle.bayou_streams.specs.Account.{account};
 
 use crate::desk::{Desk, OWN, print};
 use crate::fault::ConnectFault;
@@ -41,10 +38,7 @@ impl Desk {
         output: &mut Output<W>,
         server: ServerId,
     ) -> Result<bool, ConnectFault>
-        ensures done { IfOk result (λ done. MatchBool done
-            ((told : Option (Result (Option Name) Fault)) × (self.new.is_served ≡ (self.old.is_served && is_reopened told))
-            × TakesBytes (account W.contents output.old) (account W.contents output.new) (reopened_text self.old.servers server told))
-            (All (λ access. access.place.id ≢ server) self.old.store.accesses.items × (self.new ≡ self.old) × (output.new ≡ output.old))) }
+        ensures done { IfOk result (Reopens server self.old self.new (account W.contents output.old) (account W.contents output.new)) }
         ensures same { IsSameDesk self.old self.new }
     {
         let Some(at) = self.store.place_of(server) else {
@@ -70,22 +64,37 @@ impl Desk {
         Ok(true)
     }
 
-    /// Prints what each server holds.
+    // Prints what the server holds, or that it is away.
+    fn tell_server<W: Write, T: Sockets + Clock>(
+        &mut self,
+        rt: &T,
+        output: &mut Output<W>,
+        server: ServerId,
+    ) -> Result<(), ConnectFault>
+        ensures { OnOk result (TellsServer server self.old self.new (account W.contents output.old) (account W.contents output.new)) }
+    {
+        let held = match self.store.place_of(server) {
+            None => None,
+            Some(at) => self.store.held_at(rt, at)?,
+        };
+        if held.is_none() {
+            self.is_served = false;
+        }
+        let line = server_line(self.alloc, server, self.servers, &held)?;
+        print(output, line.as_str())
+    }
+
+    /// Prints what each server holds, or that it is away.
     pub(crate) fn tell_servers<W: Write, T: Sockets + Wait + Clock>(
         &mut self,
         rt: &T,
         output: &mut Output<W>,
-    ) -> Result<(), ConnectFault> {
-        for at in 0..self.store.len() {
-            let Some(server) = self.store.server_at(at) else {
-                break;
-            };
-            let held = self.store.held_at(rt, at)?;
-            if held.is_none() {
-                self.is_served = false;
-            }
-            let line = server_line(self.alloc, server, self.servers, &held)?;
-            print(output, line.as_str())?;
+    ) -> Result<(), ConnectFault>
+        ensures { OnOk result (TellServers (servers_at self.old.store.accesses.items) self.old self.new (account W.contents output.old) (account W.contents output.new)) }
+    {
+        let servers = self.store.servers()?;
+        for server in &servers {
+            self.tell_server(rt, output, *server)?;
         }
         Ok(())
     }
@@ -95,9 +104,7 @@ impl Desk {
         &mut self,
         output: &mut Output<W>,
     ) -> Result<(), ConnectFault>
-        ensures told { OnOk result (MatchOption (kept_of self.old.store.sessions.items own_session) (output.new ≡ output.old)
-            (λ kept. (asks : List ℕ) × (line : Account) × IsAsksLine own_session kept.session.asks asks × TakesBytes (account W.contents output.old) line asks
-            × TakesBytes line (account W.contents output.new) (seat_text 0 self.old.servers kept.session.reads kept.session.writes))) }
+        ensures told { OnOk result (TellsSession self.old (account W.contents output.old) (account W.contents output.new)) }
         ensures same { self.new ≡ self.old }
     {
         let Some(kept) = self.store.session(OWN) else {
@@ -111,36 +118,60 @@ impl Desk {
         print(output, line.as_str())
     }
 
+    // Puts what the server holds into the book, if it sends it, and prints how many Writes that are.
+    fn dump_server<W: Write, T: Sockets + Clock>(
+        &mut self,
+        rt: &T,
+        output: &mut Output<W>,
+        server: ServerId,
+    ) -> Result<(), ConnectFault>
+        ensures { OnOk result (DumpsServer server self.old self.new (account W.contents output.old) (account W.contents output.new)) }
+    {
+        let sent = match self.store.place_of(server) {
+            None => None,
+            Some(at) => self.store.dump(rt, at)?,
+        };
+        let number = match sent {
+            None => {
+                self.is_served = false;
+                None
+            }
+            Some(writes) => {
+                self.store.hold(server, &writes)?;
+                Some(writes.len())
+            }
+        };
+        let line = dumped_line(self.alloc, server, number)?;
+        print(output, line.as_str())
+    }
+
+    // Puts what each server holds into the book.
+    fn dump_servers<W: Write, T: Sockets + Clock>(
+        &mut self,
+        rt: &T,
+        output: &mut Output<W>,
+    ) -> Result<(), ConnectFault>
+        ensures { OnOk result (DumpServers (servers_at self.old.store.accesses.items) self.old self.new (account W.contents output.old) (account W.contents output.new)) }
+    {
+        let servers = self.store.servers()?;
+        for server in &servers {
+            self.dump_server(rt, output, *server)?;
+        }
+        Ok(())
+    }
+
     /// Puts what each server holds into the book. Whether there is one.
     pub(crate) fn dump<W: Write, T: Sockets + Clock>(
         &mut self,
         rt: &T,
         output: &mut Output<W>,
     ) -> Result<bool, ConnectFault>
-        ensures done { IfOk result (λ done. done ≡ is_some self.old.store.book) }
-        ensures none { self.old.store.book ≡ None → (result ≡ Ok false) × (self.new ≡ self.old) × (output.new ≡ output.old) }
-        ensures same { IsSameSeat self.old self.new × (self.new.store.sessions ≡ self.old.store.sessions) × (self.new.store.state ≡ self.old.store.state) }
+        ensures { IfOk result (Dumps self.old self.new (account W.contents output.old) (account W.contents output.new)) }
     {
         if !self.store.has_book() {
             return Ok(false);
         }
-        for at in 0..self.store.len() {
-            let Some(server) = self.store.server_at(at) else {
-                break;
-            };
-            let sent = match self.store.dump(rt, at)? {
-                None => {
-                    self.is_served = false;
-                    None
-                }
-                Some(writes) => {
-                    self.store.hold(server, &writes)?;
-                    Some(writes.len())
-                }
-            };
-            let line = dumped_line(self.alloc, server, sent)?;
-            print(output, line.as_str())?;
-        }
+        self.dump_servers(rt, output)?;
         Ok(true)
     }
 }

@@ -13,6 +13,7 @@ mod anywhere;
 pub mod asking;
 mod audit_file;
 mod claiming;
+mod commanding;
 pub mod connecting;
 pub mod deadline;
 mod desk;

@@ -1,10 +1,10 @@
 //! The servers of a store and the sessions of a person there: each operation, with what is kept of it.
-ghost use Rattle.std.specs.Prelude.{◌≡◌, ◌≢◌, ◌<◌, ℕ, All, IfErr, IfOk, IfSome, IsErr, IsSomeAnd, MatchOption, None, Ok, OnOk, Some, is_some, map, option_map, slice_get, true, vec_len};
+ghost use Rattle.std.specs.Prelude.{◌≡◌, ◌≢◌, ◌<◌, ◌||◌, ℕ, All, IfErr, IfOk, IfSome, IsErr, IsSomeAnd, MatchOption, None, Ok, OnOk, Some, is_some, map, option_map, slice_get, true, vec_len};
 ghost use Rattle.std.specs.Option.{option_copied};
 ghost use Rattle.bayou_base.specs.declared.limits.TheConstants.{SESSIONS as NUMBER};
 ghost use Rattle.bayou_connect.specs.Silence.{silent_at};
 ghost use Rattle.bayou_connect.specs.Faults.{IsBookFault};
-ghost use Rattle.bayou_connect.specs.Finals.{vector_read};
+ghost use Rattle.bayou_connect.specs.Finals.{is_refused_as_full, vector_read};
 ghost use Rattle.bayou_connect.specs.Keeping.{HasAsked};
 ghost use Rattle.bayou_connect.specs.Round.{turns_but_last};
 ghost use Rattle.bayou_connect.specs.Sessions.{IsOpened, kept_of, opened};
@@ -19,7 +19,7 @@ use crate::remembering::StateFile;
 use crate::round::{but_last, in_turn};
 use crate::told::Told;
 use crate::views_file::{ViewsFile, view_in};
-use bayou_base::{Asks, Entry, Key, Seen, ServerId, SessionId, Vector, Wid};
+use bayou_base::{Asks, Entry, Key, Refusal, Seen, ServerId, SessionId, Vector, Wid};
 use bayou_client::{Asker, LinkFault};
 use bayou_greeting::Stranger;
 use bayou_lang::RestingWrite;
@@ -49,6 +49,8 @@ pub(crate) struct Store {
     pub(crate) greeter: Greeter,
     /// Which server a session asked last, by its place in the list.
     asked_last: usize,
+    /// Whether a Write was refused since a log is full, and that is still to be told.
+    is_full: bool,
     ghost one_each: { vec_len sessions ≡ NUMBER },
 }
 
@@ -130,6 +132,7 @@ impl Store {
             timeout_seconds,
             greeter,
             asked_last: 0,
+            is_full: false,
         })
     }
 
@@ -259,12 +262,16 @@ impl Store {
     // Notes what the server of this place in the list told of an operation.
     fn note(&mut self, at: usize, told: &Told)
         ensures read { self.new.read_last ≡ vector_read told.now }
+        ensures full { self.new.is_full ≡ (self.old.is_full || is_refused_as_full told.now) }
         ensures same { (self.new.sessions ≡ self.old.sessions) × (self.new.state ≡ self.old.state) × (self.new.book ≡ self.old.book) × (self.new.accesses ≡ self.old.accesses) }
     {
         self.read_last = match told {
             Told::Seen(seen) => Some(seen.vector),
             _ => None,
         };
+        if let Told::Refused(Refusal::LogFull) = told {
+            self.is_full = true;
+        }
         if let Some(view) = view_in(told) {
             self.hear_at(at, &view);
         }
@@ -281,11 +288,31 @@ impl Store {
         }
     }
 
+    /// Whether a Write was refused since a log is full, and that wasn't told yet. It counts as told from then on.
+    pub(crate) fn take_full(&mut self) -> bool
+        ensures { (result ≡ self.old.is_full) × (self.new ≡ record self.old { is_full = false }) }
+    {
+        let is_full = self.is_full;
+        self.is_full = false;
+        is_full
+    }
+
     /// Which server a session asked last, by its place in the list.
     pub(crate) fn asked_last(&self) -> usize
         ensures { result ≡ self.now.asked_last }
     {
         self.asked_last
+    }
+
+    /// The servers, in the order of the list.
+    pub(crate) fn servers(&self) -> Result<Vec<ServerId>, AllocError>
+        ensures { IfOk result (λ servers. servers.items ≡ map (λ access. access.place.id) self.now.accesses.items) }
+    {
+        let mut servers = Vec::with_capacity(self.alloc, self.accesses.len())?;
+        for access in &self.accesses {
+            servers.push(access.place.id)?;
+        }
+        Ok(servers)
     }
 
     /// Which server is at this place in the list.

@@ -60,4 +60,4 @@ straying_text path straying = codes "bayou: " ++ (path ++ (codes ": " ++ (became
 
 -- the server fills up
 abbrev pub holds_text : (held limit : ℕ) → List ℕ
-holds_text held limit = codes "bayou: holds " ++ (decimal held ++ (codes " of " ++ (decimal limit ++ codes " writes\n")))
+holds_text held limit = codes "bayou: holds " ++ (decimal held ++ (codes " of " ++ (decimal limit ++ codes " writes; then raise --limit, or make a new store with bayou renew\n")))

@@ -46,5 +46,7 @@ pub(crate) fn reopened_line(alloc: Global, adopted: Option<Wid>) -> Result<Strin
 pub(crate) fn holds_line(alloc: Global, held: u32, limit: u32) -> Result<String, AllocError>
     ensures { IfOk result (λ line. string_bytes line ≡ holds_text held limit) }
 {
-    format!(in alloc; "bayou: holds {held} of {limit} writes\n")
+    format!(in alloc;
+        "bayou: holds {held} of {limit} writes; then raise --limit, or make a new store with bayou renew\n"
+    )
 }
