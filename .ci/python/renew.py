@@ -22,6 +22,8 @@ import bayou  # noqa: E402
 CALL_SECONDS = 120
 # How many puts a Write has at the most, and how many Writes a store.
 MOST_OPS, MOST_WRITES = 8, 65536
+# How many Writes each of three servers makes in a year, apart from the others.
+YEAR = 20000
 LINE = re.compile(r"renewed ([0-9]+) at ([0-9,]+) keys ([0-9]+) writes ([0-9]+) digest ([0-9a-f]{16})\n")
 
 
@@ -65,6 +67,28 @@ def digest_of(writes):
 
 def numbered(number):
     return [("k%06d" % (MOST_OPS * number + place), number) for place in range(MOST_OPS)]
+
+
+def of_year(origin, number):
+    """The program of a Write of a year: a claim of a room, or of the next one; a cancellation; or a setting."""
+    room = "room/%05d" % (7 * number % 12000)
+    other = "room/%05d" % (7 * number % 12000 + 1)
+    if number % 4 == 3:
+        return ((), [("put", "set/%d/%03d" % (origin, number % 500), ("lit", number)), ("put", "sum", ("plus", "sum", 1))], [])
+    if number % 4 == 2:
+        return ((), [("del", "room/%05d" % (7 * (number - 2) % 12000))], [])
+    name = ("lit", "person %d" % (number % 97))
+    return ([("absent", room)], [("put", room, name)], [([("absent", other)], [("put", other, name)])])
+
+
+def year_of(origin):
+    """The bytes of a year's Writes of a server."""
+    writes = []
+    for number in range(YEAR):
+        deps = list(frames.ZERO)
+        deps[origin] = number
+        writes.append(frames.write_bytes((origin, number + 1, number + 1, tuple(deps), of_year(origin, number))))
+    return writes
 
 
 class Tries:
@@ -137,7 +161,7 @@ class Tries:
         """What a person is answered who says these lines at the servers."""
         call = [self.program, "connect"]
         for index, server in enumerate(servers):
-            call += ["--server", "%d=%s" % (index, server.address())]
+            call += ["--server", "%d=%s" % (index, server.address())] if server else []
         done = subprocess.run(call + list(words), input=lines.encode(), capture_output=True, timeout=CALL_SECONDS)
         return done.returncode, done.stdout.decode(), done.stderr.decode()
 
@@ -149,7 +173,7 @@ class Tries:
         self.that("a list is told", (done.returncode, lines[-1:] != [] and lines[-1].startswith("list")), (0, True))
         return lines[:-1]
 
-    def same_counts(self, servers, key=None):
+    def same_counts(self, servers, key=None, seconds=SECONDS):
         """Waits until all servers hold the same."""
         found = None if key is None else bayou.Key(key)
 
@@ -163,7 +187,7 @@ class Tries:
                     link.close()
             return len(vectors) == 1 and vectors.pop()
 
-        return soon(looked)
+        return soon(looked, seconds)
 
     # Groups.
 
@@ -444,9 +468,33 @@ class Tries:
             self.that("it is served then", server.printed.find("serving .* holds %s" % at, CALL_SECONDS) is not None)
             self.that("and ends well", server.end()[0], 0)
 
+    def year(self):
+        """Claims, cancellations and settings of three servers that were apart for a year, and nearly fill a store: they meet, and go on at a new one."""
+        old, new = self.folder(), self.folder()
+        for index in range(3):
+            with open(os.path.join(old, "server-%d.journal" % index), "wb") as file:
+                file.write(frames.journal_of(index, year_of(index)))
+        servers = self.store(old, 3)
+        at = ",".join([str(YEAR)] * 3)
+        self.that("they meet", self.same_counts(servers, seconds=CALL_SECONDS) is not None)
+        rows = [self.rows(server, index, 3) for index, server in enumerate(servers)]
+        self.that("their databases are one", rows[1:], [rows[0]] * 2)
+        self.that("rooms were claimed, and settings made", (len(rows[0]) > 6000, sum(row.startswith("set/") for row in rows[0])), (True, 3 * 125))
+        self.that("all hold all of it", self.ended(servers), at)
+        told = [self.renewed("server %d is renewed" % index, old, new, at, index=index) for index in range(3)]
+        self.that("the same at all", told[1:], [told[0]] * 2)
+        self.that("as few Writes as can put the rows", told[0] and told[0][:2], (len(rows[0]), -(-len(rows[0]) // MOST_OPS)))
+        servers = self.store(new, 3)
+        for index, server in enumerate(servers):
+            self.that("server %d has the rows" % index, self.rows(server, index, 3), rows[0])
+            status, printed, _ = self.connect([None] * index + [server], "put %d/next 1\n" % index, ["--servers", "3"])
+            self.that("server %d takes Writes" % index, (status, printed.startswith("0 wrote %d:" % index)), (0, True))
+        self.that("they go on alike", self.same_counts(servers) is not None)
+        self.that("with a Write more of each", self.ended(servers), "%d,1,1" % (told[0][1] + 1))
+
     def run(self, groups):
         every = {"words": self.words, "refused": self.refused, "damaged": self.damaged, "without": self.without, "numbers": self.numbers, "parts": self.parts,
-                 "stores": self.stores, "kills": self.kill, "room": self.half}
+                 "stores": self.stores, "year": self.year, "kills": self.kill, "room": self.half}
         for name in groups or every:
             begun = time.monotonic()
             every[name]()
