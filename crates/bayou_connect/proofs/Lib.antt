@@ -15,6 +15,7 @@ pub mod Parting
 pub mod Picking
 pub mod Rounding
 pub mod Serving
+pub mod Spelled
 pub mod Telling
 pub mod Turns
 pub mod Zipped

@@ -1,7 +1,7 @@
 -- A line that is taken piece by piece.
 use Rattle.std.proofs.Common.{arith, ◌≡◌, ◌∙◌, ◌+◌, ◌-◌, ◌<◌, ◌≤◌, ◌++◌, ◌∷◌, [], ℕ, List, Bool, true, false, MatchBool, Option, None, Some, zero, suc, ap, append_assoc, cond, drop, eq-eqb, length, length-append, not, refl, subst, sym, take}
 use Rattle.std.specs.Io.KnownBytes.{IsAtEnd, Keeps}
-use Rattle.std.specs.List.{after_first, before_first, position_or_len, prefix_len}
+use Rattle.std.specs.List.{after_first, before_first, position_or_len}
 use Rattle.std.proofs.Math.Seq.{drop-append-add, take-append_seam}
 use Rattle.std.proofs.lemmas.Grind.{common_steps}
 use Rattle.std.proofs.lemmas.List.{append-nil, length-take, take_all}

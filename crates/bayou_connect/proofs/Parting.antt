@@ -1,6 +1,6 @@
 -- What of a line is in a piece that was read.
-use Rattle.std.proofs.Common.{arith, ◌≡◌, ◌∙◌, ◌+◌, ◌-◌, ◌<◌, ◌≤◌, ◌++◌, ◌∷◌, ◌⊎◌, [], ℕ, suc, List, Bool, true, false, Option, None, Some, ap, append_assoc, drop, eqb-true, get_or, if◌then◌else◌, inl, inr, length, length-drop, min, not, refl, subst, sym, take, ⊎_elim}
-use Rattle.std.specs.List.{after_first, before_first, position_or_len, slice_range}
+use Rattle.std.proofs.Common.{arith, ◌≡◌, ◌∙◌, ◌+◌, ◌-◌, ◌<◌, ◌≤◌, ◌++◌, ◌∷◌, [], ℕ, List, Bool, true, false, Option, None, Some, ap, append_assoc, drop, eqb-true, get_or, if◌then◌else◌, length, length-drop, min, not, subst, sym, take, ⊎_elim}
+use Rattle.std.specs.List.{position_or_len, slice_range}
 use Rattle.std.specs.Option.{option_map}
 use Rattle.std.specs.Prelude.{position}
 use Rattle.std.proofs.lemmas.Bool.{cases_lt}

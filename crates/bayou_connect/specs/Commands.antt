@@ -80,7 +80,7 @@ Operates operation old new before after done = OperatesAs operation.session oper
 -- The session is opened, unless a line did so before.
 abbrev pub Opens : SessionId → Asks → (old new : Desk) → (done : Bool) → Type 0
 Opens who asks old new done = MatchBool done
-    ((slice_get old.opened who.index ≡ Some false) × (new ≡ record old { store = new.store; opened = slice_set old.opened who.index true })
+    ((slice_get old.opened who.index ≡ Some false) × (new.opened ≡ slice_set old.opened who.index true)
     × IsOpenedFrom old.first_number who old.run asks old.store.sessions.items new.store.sessions.items)
     ((slice_get old.opened who.index ≢ Some false) × (new ≡ old))
 

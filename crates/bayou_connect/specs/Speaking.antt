@@ -1,5 +1,5 @@
 -- What becomes of a line: this project's own.
-use Rattle.std.specs.Prelude.{◌≡◌, ◌==◌, ◌&&◌, ◌⊎◌, ℕ, Bool, true, false, IsUtf8, List, [], ◌∷◌, if◌then◌else◌, IfOk, OnOk, MatchOption, Option, None, Some, Result, Ok, Err, codes, is_none, not, slice_get}
+use Rattle.std.specs.Prelude.{◌≡◌, ◌≢◌, ◌==◌, ◌&&◌, ◌⊎◌, ℕ, Bool, true, false, IsUtf8, List, [], ◌∷◌, if◌then◌else◌, IfOk, OnOk, MatchOption, Option, None, Some, Result, Ok, Err, codes, is_none, not, slice_get}
 use Rattle.std.specs.List.{after_first, before_first}
 use Rattle.std.specs.Str.{bytes_eq}
 use Rattle.std.specs.Str.Parse.{IsNumeral, digits_value}
@@ -137,14 +137,14 @@ pub record DoesSpoken (spoken : Option Spoken) (result : Result Became ConnectFa
   pub ends : IfOk result (λ done. done ≡ became.Quit → spoken ≡ Some Quit)
   pub helps : spoken ≡ Some Help → OnOk result (TakesBytes before after HELP.now) × (new ≡ old)
 
--- what becomes of a line that isn't blank, of which these are the bytes without the white space around them: one that begins with [ is a script's
-abbrev pub DoesLineAs : (line words : List ℕ) → (old new : Desk) → (before after : Account) → Became → Type 0
-DoesLineAs line [] old new before after done = Unit {0}
-DoesLineAs line (byte ∷ bytes) old new before after done =
-    if byte == 91 then DoesScriptLine line old new before after done else DoesShort (byte ∷ bytes) old new before after done
+-- the line begins with [, as a script's does
+abbrev pub is_of_script : (words : List ℕ) → Bool
+is_of_script [] = false
+is_of_script (byte ∷ bytes) = byte == 91
 
--- What becomes of a line: a blank one does nothing.
+-- What becomes of a line, of which these are the bytes without the white space around them: a blank one does nothing.
 pub record DoesLine (line words : List ℕ) (result : Result Became ConnectFault) (old new : Desk) (before after : Account) : Type 0 where
   pub blank : words ≡ [] → (result ≡ Ok became.Done) × (new ≡ old) × (after ≡ before)
   pub spoken : DoesSpoken (spoken_of words) result old new before after
-  pub does : IfOk result (DoesLineAs line words old new before after)
+  pub script : is_of_script words ≡ true → IfOk result (DoesScriptLine line old new before after)
+  pub short : words ≢ [] → is_of_script words ≡ false → IfOk result (DoesShort words old new before after)

@@ -1,5 +1,5 @@
 -- How the value of a key stands, as a person is told: this project's own.
-use Rattle.std.specs.Prelude.{◌≡◌, List, ℕ, MatchOption, Option, None}
+use Rattle.std.specs.Prelude.{◌≡◌, List, ℕ, if◌then◌else◌, MatchOption, Option, None, is_some}
 use Rattle.bayou_connect.specs.Finals.{IsLearnt, finals_in, keeps_finals, outlook_of}
 use Rattle.bayou_connect.specs.Listing.{standing_told}
 use Rattle.bayou_connect.specs.declared.desk.Desk.{Desk}
@@ -11,7 +11,7 @@ use Rattle.bayou_streams.specs.Account.{Account, TakesBytes}
 
 -- what the server held that served the last read, where it is kept what is final
 abbrev pub view_read : Store → Option (List ℕ)
-view_read store = MatchOption store.views None (λ views. store.read_last)
+view_read store = if is_some store.views then store.read_last else None
 
 -- It is learnt which keys may change yet at a server that holds this; or that isn't known, and nothing more is known to be final.
 abbrev pub Learns : (old : Option Outlook) → (view : List ℕ) → (new : Option Outlook) → Option Beyond → Type 0

@@ -1,5 +1,5 @@
 -- How lines are done one by one, and how all of them end: this project's own.
-use Rattle.std.specs.Prelude.{◌≡◌, ℕ, Bool, false, true, List, Option, None, Some, Ok}
+use Rattle.std.specs.Prelude.{◌≡◌, ℕ, Bool, false, true, List, Option, Ok}
 use Rattle.std.specs.Str.{IsTrimAscii}
 use Rattle.bayou_connect.specs.Reader.{TakesLine}
 use Rattle.bayou_connect.specs.Speaking.{DoesLine}
@@ -18,7 +18,7 @@ use Rattle.bayou_streams.specs.Account.{Account}
 abbrev pub DoesOne : Next → (old new : Desk) → (before after : Account) → Became → Type 0
 DoesOne End old new before after done = (done ≡ became.Ended) × (new ≡ old) × (after ≡ before)
 DoesOne TooLong old new before after done = (done ≡ became.Wrong (Script BadShape)) × (new ≡ old) × (after ≡ before)
-DoesOne (Line line) old new before after done = (words : List ℕ) × IsTrimAscii line.items words × DoesLine words (Ok done) old new before after
+DoesOne (Line line) old new before after done = (words : List ℕ) × IsTrimAscii line.items words × DoesLine line.items words (Ok done) old new before after
 
 -- the next line is taken from what is left of the input, and done
 abbrev pub DoesNext : (left rest : Option (List ℕ)) → (old new : Desk) → (before after : Account) → Became → Type 0

@@ -1,5 +1,5 @@
 -- What short lines do: this project's own.
-use Rattle.std.specs.Prelude.{◌≡◌, ◌≢◌, ◌⊎◌, ◌&&◌, ℕ, Bool, true, All, IsSomeAnd, List, [], ◌∷◌, MatchBool, MatchOption, Option, None, Some, is_some, map, slice_get}
+use Rattle.std.specs.Prelude.{◌≡◌, ◌≢◌, ◌&&◌, ℕ, Bool, true, All, IsSomeAnd, List, [], ◌∷◌, MatchBool, MatchOption, Option, None, Some, is_some, map, slice_get}
 use Rattle.bayou_base.specs.declared.server.ServerId.{ServerId}
 use Rattle.bayou_connect.specs.Claiming.{ClaimsOne, MakesAddition, MakesPlainly, ReadsKey, TellsBecame}
 use Rattle.bayou_connect.specs.Desks.{IsSameDesk, IsSameSeat}

@@ -1,7 +1,8 @@
 //! A script's line, where lines come one by one.
-ghost use Rattle.std.specs.Prelude.{◌≡◌, IfOk, OnOk, option_map};
-ghost use Rattle.bayou_connect.specs.Commands.{AsksAgain, DoesCommand, Operates, OperatesAt, Opens, TellsNoneAgain, Tries, WritesAgain, WritesAgainAt};
-ghost use Rattle.bayou_connect.specs.Sessions.{kept_of};
+ghost use Rattle.std.specs.Prelude.{◌≡◌, ◌↔◌, false, IfOk, IsTrue, OnOk, Some, option_map, slice_get, slice_set, true};
+ghost use Rattle.std.specs.Bool.{OnFalse, OnTrue};
+ghost use Rattle.bayou_connect.specs.Commands.{AsksAgain, DoesCommand, Operates, OperatesAt, TellsNoneAgain, Tries, WritesAgain, WritesAgainAt};
+ghost use Rattle.bayou_connect.specs.Sessions.{IsOpenedFrom, kept_of};
 ghost use Rattle.bayou_streams.specs.Account.{account};
 
 use crate::asking::Attempt;
@@ -146,7 +147,10 @@ impl Desk {
 
     // Opens the session, unless a line did so before.
     fn open(&mut self, who: SessionId, asks: Asks) -> bool
-        ensures { Opens who asks self.old self.new result }
+        ensures first { IsTrue result ↔ (slice_get self.old.opened who.index ≡ Some false) }
+        ensures opened { OnTrue result (IsOpenedFrom self.old.first_number who self.old.run asks self.old.store.sessions.items self.new.store.sessions.items) }
+        ensures noted { OnTrue result (self.new.opened ≡ slice_set self.old.opened who.index true) }
+        ensures same { OnFalse result (self.new ≡ self.old) }
     {
         let at = usize::from(who.index);
         if self.opened[at] {

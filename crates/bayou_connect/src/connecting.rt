@@ -127,7 +127,7 @@ fn tell_strangers<E: Write>(desk: &mut Desk, errors: &mut E) -> Result<(), Conne
 
 // Tells, as far as it can be told, that a Write was refused since a log is full, where that wasn't told yet.
 fn tell_full<E: Write>(desk: &mut Desk, errors: &mut E)
-    ensures { desk.new.store.is_full ≡ false }
+    ensures told { desk.new.store.is_full ≡ false }
     ensures same { IsSameDesk desk.old desk.new }
 {
     if desk.store.take_full() {

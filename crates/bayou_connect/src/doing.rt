@@ -1,7 +1,7 @@
 //! A line, done.
 ghost use Rattle.std.specs.Prelude.{◌≡◌, ℕ, List, IfOk, IfSome, Ok, OnOk};
 ghost use Rattle.std.specs.Str.{IsTrimAscii};
-ghost use Rattle.bayou_connect.specs.Speaking.{AsksOnceMore, AsksToWait, DoesLine, DoesOther, DoesScriptLine, DoesShort, DoesSpoken, DoesWishLine, spoken_of, unread_line};
+ghost use Rattle.bayou_connect.specs.Speaking.{AsksOnceMore, AsksToWait, DoesLine, DoesOther, DoesScriptLine, DoesShort, DoesSpoken, DoesWishLine, is_of_script, spoken_of, unread_line};
 ghost use Rattle.bayou_connect.specs.declared.doing.Became.TheVariants as became;
 ghost use Rattle.bayou_person.specs.declared.wish.WishFault.{WishFault as NoWish};
 ghost use Rattle.bayou_streams.specs.Account.{account};
@@ -202,6 +202,16 @@ fn do_short_line<W: Write, T: Files<File = File> + Sockets + Wait + Clock>(
     Ok(Became::Done)
 }
 
+// Whether the line begins as a script's does.
+fn begins_as_script(words: &[u8]) -> bool
+    ensures { result ≡ is_of_script words.now }
+{
+    match words {
+        [b'[', ..] => true,
+        _ => false,
+    }
+}
+
 /// Does a line, and tells what became of it.
 pub(crate) fn do_line<W: Write, T: Files<File = File> + Sockets + Wait + Clock>(
     rt: &T,
@@ -211,9 +221,12 @@ pub(crate) fn do_line<W: Write, T: Files<File = File> + Sockets + Wait + Clock>(
 ) -> Result<Became, ConnectFault>
     ensures { (words : List ℕ) × IsTrimAscii line.now words × DoesLine line.now words result desk.old desk.new (account W.contents output.old) (account W.contents output.new) }
 {
-    match line.trim_ascii() {
-        [] => Ok(Became::Done),
-        [b'[', ..] => do_script_line(rt, desk, output, line),
-        short => do_short_line(rt, desk, output, short),
+    let words = line.trim_ascii();
+    if words.is_empty() {
+        return Ok(Became::Done);
     }
+    if begins_as_script(words) {
+        return do_script_line(rt, desk, output, line);
+    }
+    do_short_line(rt, desk, output, words)
 }

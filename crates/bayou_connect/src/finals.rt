@@ -1,5 +1,5 @@
 //! What a person is told of what is final.
-ghost use Rattle.std.specs.Prelude.{◌≡◌, ◌+◌, ◌^◌, ◌&&◌, ◌||◌, [], if◌then◌else◌, IfOk, None, Ok, OnOk, Some, is_none, min, not, slice_get, true};
+ghost use Rattle.std.specs.Prelude.{◌≡◌, ◌+◌, ◌-◌, ◌^◌, ◌&&◌, ◌||◌, [], if◌then◌else◌, IfOk, None, Ok, OnOk, Some, is_none, min, not, slice_get, true};
 ghost use Rattle.bayou_connect.specs.Beyond.{standing_at};
 ghost use Rattle.bayou_connect.specs.Desks.{IsSameDesk};
 ghost use Rattle.bayou_connect.specs.Finals.{is_void_for_good, keeps_finals, outlook_of, own_in, told_as};

@@ -123,7 +123,7 @@ impl Store {
 
     /// The server of this place in the list told that it holds this.
     pub(crate) fn hear_at(&mut self, at: usize, view: &Vector)
-        ensures { (self.new.sessions ≡ self.old.sessions) × (self.new.state ≡ self.old.state) × (self.new.book ≡ self.old.book) × (self.new.accesses ≡ self.old.accesses) × (self.new.read_last ≡ self.old.read_last) }
+        ensures { (self.new.sessions ≡ self.old.sessions) × (self.new.state ≡ self.old.state) × (self.new.book ≡ self.old.book) × (self.new.accesses ≡ self.old.accesses) × (self.new.read_last ≡ self.old.read_last) × (self.new.is_full ≡ self.old.is_full) }
     {
         let alloc = self.alloc;
         let (Some(access), Some(kept)) = (self.accesses.get(at), &mut self.views) else {

@@ -1,5 +1,5 @@
 //! The servers of a store and the sessions of a person there: each operation, with what is kept of it.
-ghost use Rattle.std.specs.Prelude.{◌≡◌, ◌≢◌, ◌<◌, ◌||◌, ℕ, All, IfErr, IfOk, IfSome, IsErr, IsSomeAnd, MatchOption, None, Ok, OnOk, Some, is_some, map, option_map, slice_get, true, vec_len};
+ghost use Rattle.std.specs.Prelude.{◌≡◌, ◌≢◌, ◌<◌, ◌||◌, false, ℕ, All, IfErr, IfOk, IfSome, IsErr, IsSomeAnd, MatchOption, None, Ok, OnOk, Some, is_some, map, option_map, slice_get, true, vec_len};
 ghost use Rattle.std.specs.Option.{option_copied};
 ghost use Rattle.bayou_base.specs.declared.limits.TheConstants.{SESSIONS as NUMBER};
 ghost use Rattle.bayou_connect.specs.Silence.{silent_at};

@@ -1,6 +1,6 @@
-use Rattle.std.proofs.Common.{arith, ◌≡◌, ◌∙◌, ◌+◌, ◌≤◌, List, ℕ, drop, get_or, length, subst, sym}
+use Rattle.std.proofs.Common.{arith, ◌∙◌, ◌+◌, ◌≤◌, List, drop, get_or, length, subst, sym}
 use Rattle.bayou_base.specs.declared.server.ServerId.{ServerId}
-use Rattle.bayou_connect.specs.Wishing.{DumpServers, DumpsServer, servers_at}
+use Rattle.bayou_connect.specs.Wishing.{DumpServers, DumpsServer}
 use Rattle.bayou_connect.proofs.Around.{dumps_none, dumps_on}
 use Rattle.bayou_connect.proofs.Claimed.{next_of, none_left}
 use Rattle.bayou_streams.specs.Account.{account}

@@ -1,6 +1,6 @@
-use Rattle.std.proofs.Common.{arith, ◌≡◌, ◌∙◌, ◌+◌, ◌≤◌, List, ℕ, drop, get_or, length, subst, sym}
+use Rattle.std.proofs.Common.{arith, ◌∙◌, ◌+◌, ◌≤◌, List, drop, get_or, length, subst, sym}
 use Rattle.bayou_base.specs.declared.server.ServerId.{ServerId}
-use Rattle.bayou_connect.specs.Wishing.{TellServers, TellsServer, servers_at}
+use Rattle.bayou_connect.specs.Wishing.{TellServers, TellsServer}
 use Rattle.bayou_connect.proofs.Around.{tells_none, tells_on}
 use Rattle.bayou_connect.proofs.Claimed.{next_of, none_left}
 use Rattle.bayou_streams.specs.Account.{account}

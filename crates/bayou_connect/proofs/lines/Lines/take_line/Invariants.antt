@@ -1,8 +1,7 @@
 -- the bytes that were taken so far, of which none is a line feed
-use Rattle.std.proofs.Common.{◌≡◌, ◌+◌, ◌<◌, ◌++◌, ℕ, List, [], Bool, true, false, MatchBool, length, take}
-use Rattle.std.specs.List.{position_or_len}
+use Rattle.std.proofs.Common.{◌≡◌, ◌+◌, ℕ, List, take}
 use Rattle.bayou_base.specs.declared.limits.TheConstants.{MAX_LINE_BYTES}
-use Rattle.bayou_connect.specs.Reader.{is_line_feed, left_in}
+use Rattle.bayou_connect.specs.Reader.{left_in}
 use Rattle.bayou_connect.proofs.Lining.{HasTaken}
 use Rattle.bayou_connect.proofs.lines.Lines.take_line.Given as goal
 
