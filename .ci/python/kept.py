@@ -91,6 +91,7 @@ class Tries:
             self.closed_connect(subset, name)
             self.closed_net(subset, name)
             self.closed_key(subset, name)
+            self.closed_renew(subset, name)
             self.closed_others(subset, name)
 
     def closed_serve(self, subset, name):
@@ -139,6 +140,24 @@ class Tries:
         self.that("key ends well " + name, self.call(["key", path, "--name", "room"], b"", subset)[0], 0)
         with open(path) as file:
             self.that("its file has the key and nothing else " + name, re.fullmatch(r"bayou-key-1 room [0-9a-f]{64}\n", file.read()) is not None)
+
+    def closed_renew(self, subset, name):
+        """What is made with the streams closed has the entries of what is made with them open, and nothing behind them."""
+        old, path = self.folder(), "server-0.journal"
+        server = Server(self.program, old, 0, servers=1, new=True)
+        server.serving()
+        for number in range(5):
+            write_at(server.address(), number)
+        server.end()
+        before = left_behind(os.path.join(old, path))
+        made = []
+        for closed in ((), subset):
+            new = self.folder()
+            status = self.call(["renew", "--id", "0", "--servers", "1", "--dir", old, "--to", new, "--at", "5"], b"", closed)[0]
+            made.append((status, os.listdir(new), left_behind(os.path.join(new, path))))
+        self.that("renew ends well %s" % name, made[0][:2], (0, [path]))
+        self.that("what renew made has its Writes and nothing else %s" % name, made[1], made[0])
+        self.that("the old journal stays as it was %s" % name, left_behind(os.path.join(old, path)), before)
 
     def closed_others(self, subset, name):
         script = os.path.join(self.room, "closed.script")
