@@ -74,7 +74,8 @@ def of_year(origin, number):
     room = "room/%05d" % (7 * number % 12000)
     other = "room/%05d" % (7 * number % 12000 + 1)
     if number % 4 == 3:
-        return ((), [("put", "set/%d/%03d" % (origin, number % 500), ("lit", number)), ("put", "sum", ("plus", "sum", 1))], [])
+        counted = ("plus", "sum", 1) if number > 3 else ("lit", 0)
+        return ((), [("put", "set/%d/%03d" % (origin, number % 500), ("lit", number)), ("put", "sum", counted)], [])
     if number % 4 == 2:
         return ((), [("del", "room/%05d" % (7 * (number - 2) % 12000))], [])
     name = ("lit", "person %d" % (number % 97))
