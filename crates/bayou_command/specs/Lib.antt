@@ -1,4 +1,5 @@
 pub mod Connect
+pub mod Export
 pub mod Inner
 pub mod Key
 pub mod Options

@@ -8,12 +8,14 @@
 ghost use Rattle.std.specs.Prelude.{◌≡◌, ◌∷◌, ◌++◌, [], ℕ, IfOk, List, Some, codes, false, map, true};
 ghost use Rattle.clap.specs.declared.builder.command.Command.TheViews.{out-Command as fields_of};
 ghost use Rattle.clap.specs.Words.{app_of, found_of, kind_of, rows_of, rule_of, subcommand_rows_of};
-ghost use Rattle.bayou_command.specs.Words.{AskFor, Names, a_connect, a_key, a_net, a_renewal, a_run, a_serve, an_audit, asked_by, audit_app, bayou_app, faults_of, file, folder_of, folder_rule, input_of, input_seen, main_app, net_app, run_app, standard, task_seen};
-ghost use Rattle.bayou_command.specs.Rows.{TakesNumbers, connect_with, connect_words, key_words, plain_connection, plain_renewal, plain_service, renew_with, renew_words, serve_with, serve_words};
+ghost use Rattle.bayou_command.specs.Words.{AskFor, Names, a_connect, a_key, a_net, a_renewal, a_run, a_serve, an_audit, an_export, asked_by, audit_app, bayou_app, faults_of, file, folder_of, folder_rule, input_of, input_seen, main_app, net_app, run_app, standard, task_seen};
+ghost use Rattle.bayou_command.specs.Rows.{TakesNumbers, bare_export, connect_with, connect_words, export_words, key_words, plain_connection, plain_renewal, plain_service, renew_with, renew_words, serve_with, serve_words};
 ghost use Rattle.bayou_command.specs.Inner.Stops.{StopsAt};
 
 mod connect;
 mod connecting;
+mod export;
+mod exporting;
 mod key;
 mod options;
 mod renew;
@@ -26,6 +28,8 @@ use clap::error::ErrorKind;
 use clap::{Arg, ArgMatches, Command, Error};
 use connect::{connect_command, connecting_in};
 pub use connecting::Connecting;
+use export::{export_command, exporting_in};
+pub use exporting::Exporting;
 use key::key_command;
 use options::text_in;
 use renew::{renew_command, renewing_in};
@@ -70,8 +74,8 @@ the verdict is clean.
 
 `bayou run --help` has each line of a script, `bayou net --help` how a script is run over sockets, with journals in files,
 `bayou audit --help` each line of an audit file, `bayou serve --help` how one server is kept at a socket for clients of any kind,
-`bayou connect --help` how a person writes and reads at such servers, `bayou key --help` how a store is kept from strangers, and
-`bayou renew --help` how a store goes on once its log is full.
+`bayou connect --help` how a person writes and reads at such servers, `bayou key --help` how a store is kept from strangers,
+`bayou renew --help` how a store goes on once its log is full, and `bayou export --help` how what a store has is taken out of it.
 Exit status: 0 nothing is wrong; 1 a verdict is broken; 2 the input or the command line is refused, or a verdict is; 3 memory, a
 device, the network, the input or the output failed.
 docs/TROUBLE.md says what to do about each fault; examples/ has scripts and audit files to begin from."#;
@@ -266,6 +270,8 @@ pub enum Task<'a> {
     Key { name: &'a str, file: &'a str },
     /// To make the journal of a new store, of one that goes on no more.
     Renew(Renewing<'a>),
+    /// To print the rows of a server.
+    Export(Exporting<'a>),
 }
 
 /// Why the words name no task.
@@ -369,6 +375,7 @@ fn bayou_command<'a>(alloc: Global) -> Result<Command<'a>, AllocError>
         .subcommand(connect_command(alloc)?)?
         .subcommand(key_command(alloc)?)?
         .subcommand(renew_command(alloc)?)?
+        .subcommand(export_command(alloc)?)?
         .subcommand(audit_command(alloc)?)
 }
 
@@ -409,6 +416,7 @@ fn task_in<'a>(alloc: Global, matches: &ArgMatches<'a>) -> Result<Task<'a>, Allo
             file: text_in(found, "FILE"),
         },
         Some(("renew", found)) => Task::Renew(renewing_in(alloc, found)?),
+        Some(("export", found)) => Task::Export(exporting_in(alloc, found)?),
         Some((_, found)) => Task::Run(source_in(found)),
         None => Task::Run(Source::Standard),
     })
@@ -603,4 +611,28 @@ pub fn renewals_are_named()
     ensures at_twice { faults_of (renew_with (codes "--at" ∷ codes "1,2,3" ∷ [])) ≡ ErrorKind.ArgumentConflict ∷ [] }
     ensures no_option { faults_of (renew_with (codes "--walk" ∷ [])) ≡ ErrorKind.UnknownArgument ∷ [] }
     ensures word { faults_of (renew_with (codes "more" ∷ [])) ≡ ErrorKind.UnknownArgument ∷ [] }
+{}
+
+/// A law: `bayou export` asks for the rows of servers that are named, in the order of the words, or of a server's journal, of those keys that begin so.
+/// Words that ask for both, or for neither, are taken as they stand: what is told of them is another's matter. With a number out of its range, with one option
+/// twice, with a folder or a key of no name, with two prefixes or with a word that is no option it is refused. What stands behind `--server=` is taken as it
+/// stands.
+pub fn exports_are_named()
+    ensures bare { AskFor (export_words []) (an_export bare_export) }
+    ensures asked { AskFor (export_words (codes "--server" ∷ codes "s" ∷ [])) (an_export (record bare_export { servers = codes "s" ∷ [] })) }
+    ensures read { AskFor (export_words (codes "--dir" ∷ codes "d" ∷ codes "--id" ∷ codes "1" ∷ [])) (an_export (record bare_export { folder = Some (codes "d"); id = Some 1 })) }
+    ensures some_asked { AskFor (export_words (codes "p/" ∷ codes "--timeout" ∷ codes "9" ∷ codes "--key" ∷ codes "k" ∷ codes "--servers" ∷ codes "3" ∷ codes "--server" ∷ codes "s" ∷ []))
+        (an_export (record bare_export { servers = codes "s" ∷ []; count = Some 3; key = Some (codes "k"); timeout_seconds = 9; prefix = Some (codes "p/") })) }
+    ensures some_read { AskFor (export_words (codes "--id" ∷ codes "0" ∷ codes "--servers" ∷ codes "16" ∷ codes "--dir" ∷ codes "d" ∷ codes "p/" ∷ []))
+        (an_export (record bare_export { count = Some 16; folder = Some (codes "d"); id = Some 0; prefix = Some (codes "p/") })) }
+    ensures taken { (first second : List ℕ) → AskFor (export_words ((codes "--server=" ++ first) ∷ (codes "--server=" ++ second) ∷ [])) (an_export (record bare_export { servers = first ∷ second ∷ [] })) }
+    ensures id_above { faults_of (export_words (codes "--id" ∷ codes "16" ∷ [])) ≡ ErrorKind.ValueValidation ∷ [] }
+    ensures no_servers { faults_of (export_words (codes "--servers" ∷ codes "0" ∷ [])) ≡ ErrorKind.ValueValidation ∷ [] }
+    ensures servers_above { faults_of (export_words (codes "--servers" ∷ codes "17" ∷ [])) ≡ ErrorKind.ValueValidation ∷ [] }
+    ensures no_time { faults_of (export_words (codes "--timeout" ∷ codes "0" ∷ [])) ≡ ErrorKind.ValueValidation ∷ [] }
+    ensures nowhere { faults_of (export_words (codes "--dir" ∷ [] ∷ [])) ≡ ErrorKind.InvalidValue ∷ [] }
+    ensures no_key { faults_of (export_words (codes "--key" ∷ [] ∷ [])) ≡ ErrorKind.InvalidValue ∷ [] }
+    ensures dir_twice { faults_of (export_words (codes "--dir" ∷ codes "d" ∷ codes "--dir" ∷ codes "e" ∷ [])) ≡ ErrorKind.ArgumentConflict ∷ [] }
+    ensures two_prefixes { faults_of (export_words (codes "p" ∷ codes "q" ∷ [])) ≡ ErrorKind.UnknownArgument ∷ [] }
+    ensures no_option { faults_of (export_words (codes "--walk" ∷ [])) ≡ ErrorKind.UnknownArgument ∷ [] }
 {}

@@ -5,6 +5,7 @@ pub mod Claiming
 pub mod Claims
 pub mod Commands
 pub mod Desks
+pub mod Exporting
 pub mod Faults
 pub mod Filing
 pub mod Finals

@@ -1,4 +1,5 @@
 pub mod Audit
+pub mod Exports
 pub mod Inner
 pub mod Net
 pub mod Plans

@@ -1,5 +1,6 @@
 //! What the words leave to be done.
 use crate::connected::Call;
+use crate::exported::Extract;
 use crate::keyed::NewKey;
 use crate::renewed::Renewal;
 use crate::served::Service;
@@ -23,4 +24,6 @@ pub enum Errand {
     Key(NewKey),
     /// To make the journal of a new store.
     Renew(Renewal),
+    /// To print the rows of a server.
+    Export(Extract),
 }
