@@ -8,14 +8,16 @@
 ghost use Rattle.std.specs.Prelude.{◌≡◌, ◌∷◌, ◌++◌, [], ℕ, IfOk, List, Some, codes, false, map, true};
 ghost use Rattle.clap.specs.declared.builder.command.Command.TheViews.{out-Command as fields_of};
 ghost use Rattle.clap.specs.Words.{app_of, found_of, kind_of, rows_of, rule_of, subcommand_rows_of};
-ghost use Rattle.bayou_command.specs.Words.{AskFor, Names, a_connect, a_key, a_net, a_renewal, a_run, a_serve, an_audit, an_export, asked_by, audit_app, bayou_app, faults_of, file, folder_of, folder_rule, input_of, input_seen, main_app, net_app, run_app, standard, task_seen};
-ghost use Rattle.bayou_command.specs.Rows.{TakesNumbers, bare_export, connect_with, connect_words, export_words, key_words, plain_connection, plain_renewal, plain_service, renew_with, renew_words, serve_with, serve_words};
+ghost use Rattle.bayou_command.specs.Words.{AskFor, Names, a_connect, a_key, a_net, a_renewal, a_run, a_serve, an_audit, an_export, an_import, asked_by, audit_app, bayou_app, faults_of, file, folder_of, folder_rule, input_of, input_seen, main_app, net_app, run_app, standard, task_seen};
+ghost use Rattle.bayou_command.specs.Rows.{TakesNumbers, bare_export, connect_with, connect_words, export_words, import_with, import_words, key_words, plain_connection, plain_import, plain_renewal, plain_service, renew_with, renew_words, serve_with, serve_words};
 ghost use Rattle.bayou_command.specs.Inner.Stops.{StopsAt};
 
 mod connect;
 mod connecting;
 mod export;
 mod exporting;
+mod import;
+mod importing;
 mod key;
 mod options;
 mod renew;
@@ -30,6 +32,8 @@ use connect::{connect_command, connecting_in};
 pub use connecting::Connecting;
 use export::{export_command, exporting_in};
 pub use exporting::Exporting;
+use import::{import_command, importing_in};
+pub use importing::Importing;
 use key::key_command;
 use options::text_in;
 use renew::{renew_command, renewing_in};
@@ -75,7 +79,8 @@ the verdict is clean.
 `bayou run --help` has each line of a script, `bayou net --help` how a script is run over sockets, with journals in files,
 `bayou audit --help` each line of an audit file, `bayou serve --help` how one server is kept at a socket for clients of any kind,
 `bayou connect --help` how a person writes and reads at such servers, `bayou key --help` how a store is kept from strangers,
-`bayou renew --help` how a store goes on once its log is full, and `bayou export --help` how what a store has is taken out of it.
+`bayou renew --help` how a store goes on once its log is full, and `bayou export --help` and `bayou import --help` how what a store has
+is taken out of it and put into one.
 Exit status: 0 nothing is wrong; 1 a verdict is broken; 2 the input or the command line is refused, or a verdict is; 3 memory, a
 device, the network, the input or the output failed.
 docs/TROUBLE.md says what to do about each fault; examples/ has scripts and audit files to begin from."#;
@@ -272,6 +277,8 @@ pub enum Task<'a> {
     Renew(Renewing<'a>),
     /// To print the rows of a server.
     Export(Exporting<'a>),
+    /// To put lines into a store.
+    Import(Importing<'a>),
 }
 
 /// Why the words name no task.
@@ -376,6 +383,7 @@ fn bayou_command<'a>(alloc: Global) -> Result<Command<'a>, AllocError>
         .subcommand(key_command(alloc)?)?
         .subcommand(renew_command(alloc)?)?
         .subcommand(export_command(alloc)?)?
+        .subcommand(import_command(alloc)?)?
         .subcommand(audit_command(alloc)?)
 }
 
@@ -417,6 +425,7 @@ fn task_in<'a>(alloc: Global, matches: &ArgMatches<'a>) -> Result<Task<'a>, Allo
         },
         Some(("renew", found)) => Task::Renew(renewing_in(alloc, found)?),
         Some(("export", found)) => Task::Export(exporting_in(alloc, found)?),
+        Some(("import", found)) => Task::Import(importing_in(alloc, found)?),
         Some((_, found)) => Task::Run(source_in(found)),
         None => Task::Run(Source::Standard),
     })
@@ -635,4 +644,24 @@ pub fn exports_are_named()
     ensures dir_twice { faults_of (export_words (codes "--dir" ∷ codes "d" ∷ codes "--dir" ∷ codes "e" ∷ [])) ≡ ErrorKind.ArgumentConflict ∷ [] }
     ensures two_prefixes { faults_of (export_words (codes "p" ∷ codes "q" ∷ [])) ≡ ErrorKind.UnknownArgument ∷ [] }
     ensures no_option { faults_of (export_words (codes "--walk" ∷ [])) ≡ ErrorKind.UnknownArgument ∷ [] }
+{}
+
+/// A law: `bayou import` asks for the lines of the file that is named to be put at the servers that are, in the order of the words, and with each other
+/// option as it is given. Without a file or a server, with a number out of its range, with one option twice, with a state or a key of no name, with two files
+/// or with a word that is no option it is refused. What stands behind `--server=` and `--state=` is taken as it stands.
+pub fn imports_are_named()
+    ensures plain { AskFor (import_with []) (an_import plain_import) }
+    ensures turned { AskFor (import_words (codes "--server=s" ∷ codes "f" ∷ [])) (an_import plain_import) }
+    ensures whole { AskFor (import_with (codes "--timeout" ∷ codes "9" ∷ codes "--wait" ∷ codes "8" ∷ codes "--state" ∷ codes "t" ∷ codes "--key" ∷ codes "k" ∷ codes "--servers" ∷ codes "3" ∷ []))
+        (an_import (record plain_import { count = Some 3; key = Some (codes "k"); state = Some (codes "t"); wait_seconds = 8; timeout_seconds = 9 })) }
+    ensures taken { (first second : List ℕ) → AskFor (import_words (codes "f" ∷ (codes "--server=" ++ first) ∷ (codes "--server=" ++ second) ∷ [])) (an_import (record plain_import { servers = first ∷ second ∷ [] })) }
+    ensures bare { faults_of (import_words []) ≡ ErrorKind.MissingRequiredArgument ∷ [] }
+    ensures no_file { faults_of (import_words (codes "--server" ∷ codes "s" ∷ [])) ≡ ErrorKind.MissingRequiredArgument ∷ [] }
+    ensures no_server { faults_of (import_words (codes "f" ∷ [])) ≡ ErrorKind.MissingRequiredArgument ∷ [] }
+    ensures servers_above { faults_of (import_with (codes "--servers" ∷ codes "17" ∷ [])) ≡ ErrorKind.ValueValidation ∷ [] }
+    ensures no_time { faults_of (import_with (codes "--timeout" ∷ codes "0" ∷ [])) ≡ ErrorKind.ValueValidation ∷ [] }
+    ensures no_state { faults_of (import_with (codes "--state" ∷ [] ∷ [])) ≡ ErrorKind.InvalidValue ∷ [] }
+    ensures state_twice { faults_of (import_with (codes "--state" ∷ codes "t" ∷ codes "--state" ∷ codes "u" ∷ [])) ≡ ErrorKind.ArgumentConflict ∷ [] }
+    ensures two_files { faults_of (import_with (codes "g" ∷ [])) ≡ ErrorKind.UnknownArgument ∷ [] }
+    ensures no_option { faults_of (import_with (codes "--walk" ∷ [])) ≡ ErrorKind.UnknownArgument ∷ [] }
 {}

@@ -10,6 +10,7 @@ pub mod Faults
 pub mod Filing
 pub mod Finals
 pub mod Found
+pub mod Importing
 pub mod Keeping
 pub mod Listing
 pub mod Operating

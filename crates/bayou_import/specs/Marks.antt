@@ -1,0 +1,25 @@
+-- What is kept of an import: this project's own.
+use Rattle.std.specs.Prelude.{◌≡◌, ◌⊎◌, ◌<◌, ℕ, List, [], ◌∷◌, ◌++◌, codes, decimal}
+use Rattle.hex.specs.Hex.{encode_lower}
+use Rattle.sha2.specs.Sha256.{sha256}
+use Rattle.bayou_device.specs.Device.{BeginsWith}
+
+-- what the mark of an import of this text at this server begins with
+abbrev pub mark_start : (text : List ℕ) → (server : ℕ) → List ℕ
+mark_start text server = codes "bayou-import-1 " ++ (encode_lower (sha256 text) ++ (codes " server " ++ (decimal server ++ codes " run ")))
+
+-- and the whole of it
+abbrev pub mark_text : (start : List ℕ) → (run : ℕ) → List ℕ
+mark_text start run = start ++ (decimal run ++ codes "\n")
+
+-- the bytes are the mark that begins so, of this run
+abbrev pub IsMarkOf : (start bytes : List ℕ) → (run : ℕ) → Type 0
+IsMarkOf start bytes run = (0 < run) × (bytes ≡ mark_text start run)
+
+-- the bytes are a front of such a mark, or none
+abbrev pub IsTorn : (start bytes : List ℕ) → Type 0
+IsTorn start bytes = BeginsWith bytes start ⊎ BeginsWith start bytes
+
+-- The import goes on under the run that its mark has; or there was none, or a front of one, it was begun under the run that was drawn, and its mark lasts.
+abbrev pub IsBegun : (start old new kept : List ℕ) → (drawn run : ℕ) → Type 0
+IsBegun start old new kept drawn run = (IsMarkOf start old run × (new ≡ old)) ⊎ (IsTorn start old × (run ≡ drawn) × (kept ≡ mark_text start run))
