@@ -27,7 +27,8 @@ const KEY: &str = "The file of the store's key, where the store has one";
 
 const STATE: &str = "The file that keeps how the import was begun; without it FILE.state";
 
-const WAIT: &str = "For so many seconds a server that is away is tried again (0 to 86400; without it 0)";
+const WAIT: &str =
+    "For so many seconds a server that is away is tried again (0 to 86400; without it 0)";
 
 const TIMEOUT: &str =
     "So many seconds a server has for the connection and its whole reply (1 to 86400; without it 3)";

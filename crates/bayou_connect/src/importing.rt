@@ -108,7 +108,11 @@ struct Putting<'a, T> {
 
 impl<'a, T: Sockets + Wait + Clock> Putting<'a, T> {
     // Has the server do the Write behind so many, which puts these rows, once: why it wasn't accepted, if it wasn't.
-    fn put_once(&mut self, rows: &[(Key, Value)], writes: u32) -> Result<Option<NotPut>, ConnectFault>
+    fn put_once(
+        &mut self,
+        rows: &[(Key, Value)],
+        writes: u32,
+    ) -> Result<Option<NotPut>, ConnectFault>
         requires few { length rows.now ≤ MOST_OPS }
         requires left { writes < MOST_PLACES }
     {
@@ -116,7 +120,8 @@ impl<'a, T: Sockets + Wait + Clock> Putting<'a, T> {
         let (rt, time) = (self.rt, self.target.timeout_seconds);
         let Some(mut link) = self
             .access
-            .link(rt, &mut self.greeter, time, Purpose::Requests) else {
+            .link(rt, &mut self.greeter, time, Purpose::Requests)
+        else {
             return Ok(Some(NotPut::Away));
         };
         let mut asker = asker_at(self.target.run, writes);

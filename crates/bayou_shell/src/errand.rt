@@ -1,6 +1,7 @@
 //! What the words leave to be done.
 use crate::connected::Call;
 use crate::exported::Extract;
+use crate::imported::Intake;
 use crate::keyed::NewKey;
 use crate::renewed::Renewal;
 use crate::served::Service;
@@ -26,4 +27,6 @@ pub enum Errand {
     Renew(Renewal),
     /// To print the rows of a server.
     Export(Extract),
+    /// To put lines into a store.
+    Import(Intake),
 }
