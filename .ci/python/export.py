@@ -1,8 +1,14 @@
-"""What a store has, taken out of it, tried from outside. Call: export.py PROGRAM [GROUP..]."""
+"""What a store has, taken out of it and put into one, tried from outside. Call: export.py PROGRAM [KILLS [GROUP..]]."""
+import contextlib
 import fcntl
 import hashlib
 import json
 import os
+import pty
+import random
+import re
+import signal
+import socket
 import subprocess
 import sys
 import tempfile
@@ -56,8 +62,52 @@ def written(groups, origin=0):
     return writes
 
 
+class Cutting:
+    """A way to a server that is cut at random: some connections end before a reply, or within it, and what was asked was done or wasn't."""
+
+    def __init__(self, port):
+        self.to, self.cuts, self.listener = port, 0, socket.create_server(("127.0.0.1", 0))
+        self.port = self.listener.getsockname()[1]
+        threading.Thread(target=self.run, daemon=True).start()
+
+    def run(self):
+        with contextlib.suppress(OSError):
+            while True:
+                near = self.listener.accept()[0]
+                threading.Thread(target=self.meet, args=(near,), daemon=True).start()
+
+    def meet(self, near):
+        with contextlib.suppress(OSError), near, socket.create_connection(("127.0.0.1", self.to)) as far:
+            threading.Thread(target=self.pass_on, args=(near, far, None), daemon=True).start()
+            self.pass_on(far, near, random.randrange(0, 3000))
+
+    def pass_on(self, source, sink, left):
+        """Passes on what comes, up to so many bytes, if that is said; then both ends are closed."""
+        with contextlib.suppress(OSError):
+            while True:
+                piece = source.recv(4096)
+                if not piece:
+                    break
+                if left is not None and len(piece) > left:
+                    self.cuts += 1
+                    sink.sendall(piece[:left])
+                    break
+                left = None if left is None else left - len(piece)
+                sink.sendall(piece)
+        for end in (source, sink):
+            with contextlib.suppress(OSError):
+                end.shutdown(socket.SHUT_RDWR)
+
+    def end(self):
+        self.listener.close()
+
+
 def grouped(rows):
     return [rows[at:at + MOST_OPS] for at in range(0, len(rows), MOST_OPS)]
+
+
+def line_of_none():
+    return line(["exported", "x", [], 0])
 
 
 VALUES = [0, 1, -1, 2 ** 63 - 1, -2 ** 63, "", "kim", "Kim and Lee", "\"quoted\"", "back\\slash", "a/b", "tab\tand\nfeed\r", "\b\f", "\x00\x1f\x7f",
@@ -65,8 +115,8 @@ VALUES = [0, 1, -1, 2 ** 63 - 1, -2 ** 63, "", "kim", "Kim and Lee", "\"quoted\"
 
 
 class Tries:
-    def __init__(self, program, room):
-        self.program, self.room, self.checks = program, room, Checks()
+    def __init__(self, program, kills, room):
+        self.program, self.kills, self.room, self.checks = program, kills, room, Checks()
 
     def folder(self):
         return tempfile.mkdtemp(dir=self.room)
@@ -329,9 +379,225 @@ class Tries:
         print("export: %d keys of a server in %.1f seconds" % (len(rows), time.monotonic() - begun))
         self.that("it ends well", server.end()[0], 0)
 
+    # Imports.
+
+    def importing(self, *words):
+        """What a call of an import answers: its status, and what it printed and told."""
+        done = subprocess.run([self.program, "import"] + list(words), stdin=subprocess.DEVNULL, capture_output=True, timeout=CALL_SECONDS)
+        return done.returncode, done.stdout.decode(), done.stderr.decode()
+
+    def file(self, text, name="day.jsonl"):
+        """A file of its own folder that has this text."""
+        path = os.path.join(self.folder(), name)
+        self.put(path, text.encode() if isinstance(text, str) else text)
+        return path
+
+    def fresh(self, **more):
+        """A server that holds nothing, and the words that name it."""
+        folder = self.folder()
+        server = self.served(folder, servers=1, new=True, **more)
+        return folder, server, ["--server", "0=" + server.address()]
+
+    def told_by(self, server, key=None):
+        """The rows that a server tells, and how many Writes it holds."""
+        lines = self.export("--server", "0=" + server.address(), *(["--key", key] if key else []))[1].splitlines()
+        return [json.loads(one)[1:] for one in lines[1:]], sum(json.loads(lines[0])[2]) if lines else None
+
+    def trips(self):
+        rows = [("v/%02d" % number, value) for number, value in enumerate(VALUES)] + [("k%03d" % number, number) for number in range(300)]
+        writes = len(grouped(rows))
+        exported = self.export("--dir", self.made(grouped(rows)), "--id", "0")[1]
+        path, key = self.file(exported), self.key("room")
+        _, server, words = self.fresh(words=["--key", key])
+        words += ["--key", key]
+        line = "imported %d keys in %d writes\n" % (len(rows), writes)
+        self.that("an export is put into another store", self.importing(path, *words), (0, line, ""))
+        again = self.export(*words)[1]
+        self.that("which has the same then", again.split("\n", 1)[1], exported.split("\n", 1)[1])
+        self.that("as few Writes as can put them", json.loads(again.split("\n", 1)[0]), ["exported", "server-0", [writes], len(rows)])
+        mode = os.stat(path + ".state").st_mode & 0o777
+        self.that("its state is its owner's alone", mode, 0o600)
+        before = tree(os.path.dirname(path))
+        self.that("the same call again says the same", self.importing(path, *words), (0, line, ""))
+        self.that("and changes nothing", (self.export(*words)[1], tree(os.path.dirname(path))), (again, before))
+        other = self.file("".join(json.dumps(json.loads(one), ensure_ascii=True, indent=None) + " \r\n" for one in exported.splitlines())[:-2])
+        _, fresh, free = self.fresh()
+        self.that("another spelling of the same", self.importing(other, *free, "--state", other + ".kept"), (0, line, ""))
+        self.that("is put alike", self.export(*free)[1], again)
+        self.that("the state has the name that is said", sorted(os.listdir(os.path.dirname(other))), ["day.jsonl", "day.jsonl.kept"])
+        with bayou.Session([fresh.address()]) as session:
+            session.write({"update": [["put", "k000", "changed"], ["put", "more", 1]]})
+        self.that("a finished import that is called again", self.importing(other, *free, "--state", other + ".kept"), (0, line, ""))
+        found = dict(self.told_by(fresh)[0])
+        self.that("changes nothing of what was written since", (found["k000"], found["more"]), ("changed", 1))
+        os.remove(other + ".kept")
+        self.that("one that is begun anew", self.importing(other, *free, "--state", other + ".kept"), (0, line, ""))
+        found = dict(self.told_by(fresh)[0])
+        self.that("puts all once more, and leaves other keys", (found["k000"], found["more"]), (0, 1))
+        empty = self.file(line_of_none())
+        self.that("an export of no key", self.importing(empty, *free), (0, "imported 0 keys in 0 writes\n", ""))
+        for one in (server, fresh):
+            self.that("it ends well", one.end()[0], 0)
+
+    def files(self):
+        _, server, words = self.fresh()
+        head, rows = line(["exported", "x", [], 2]), line(["put", "a", 1]) + line(["put", "b", 2])
+        number = "line 1: it doesn't say how many keys follow, as [\"exported\",NAME,[V0,V1,..],KEYS]"
+        row = "line %d: it is no [\"put\",KEY,VALUE]"
+        for name, text, told in [
+            ("nothing", "", number), ("no first line", rows, number), ("another word", line(["put", "x", [], 2]) + rows, number),
+            ("no number", line(["exported", "x", [], "2"]) + rows, number), ("below 0", line(["exported", "x", [], -2]) + rows, number),
+            ("a member more", line(["exported", "x", [], 2, 3]) + rows, number), ("a key fewer", head + line(["put", "a", 1]), "line 1 says 2 keys, and 1 follow"),
+            ("a key more", head + rows + line(["put", "c", 3]), "line 1 says 2 keys, and 3 follow"), ("an empty line", head + "\n" + rows, row % 2),
+            ("an empty line at the end", head + rows + "\n", row % 4), ("another op", head + line(["del", "a"]) + rows, row % 2),
+            ("no value", head + line(["put", "a"]), row % 2), ("a member more of a row", head + line(["put", "a", 1, 2]), row % 2),
+            ("a term", head + rows[:12] + line(["put", "b", ["copy", "a"]]), row % 3),
+            ("a fraction", head + '["put","a",1.5]\n', row % 2), ("a number too great", head + '["put","a",9223372036854775808]\n', row % 2),
+            ("a text too long", head + line(["put", "a", "x" * 33]), row % 2), ("a key too long", head + line(["put", "a" * 33, 1]), row % 2),
+            ("no key", head + line(["put", "", 1]), row % 2), ("capitals", head + line(["put", "A", 1]), row % 2), ("no JSON", head + '["put","a",1\n', row % 2),
+            ("cut off", (head + rows)[:-4], row % 3), ("an object", head + "{}\n", row % 2), ("null", head + "null\n", row % 2),
+        ]:
+            path = self.file(text)
+            self.that(name, self.importing(path, *words), (2, "", "bayou: %s: %s; nothing was sent\n" % (path, told)))
+            self.that("%s: no state is made" % name, os.listdir(os.path.dirname(path)), ["day.jsonl"])
+        path = self.file(head.encode() + b'["put","a","\xff"]\n')
+        self.that("no UTF-8", self.importing(path, *words), (2, "", "bayou: %s: it is no text\n" % path))
+        for name in (os.path.join(self.folder(), "nowhere"), self.folder()):
+            self.that("no file", self.importing(name, *words), (3, "", "bayou: %s: it can't be opened and read\n" % name))
+        path = self.file(head + rows[:-1])
+        self.that("the last line feed may be missing", self.importing(path, *words), (0, "imported 2 keys in 1 writes\n", ""))
+        self.that("nothing else was put", self.told_by(server), ([["a", 1], ["b", 2]], 1))
+        self.that("it ends well", server.end()[0], 0)
+
+    def states(self):
+        _, server, words = self.fresh()
+        _, second, others = self.fresh()
+        text = line(["exported", "x", [], 1]) + line(["put", "a", 1])
+        path = self.file(text)
+        state = path + ".state"
+        done = (0, "imported 1 keys in 1 writes\n", "")
+        self.that("an import", self.importing(path, *words), done)
+        with open(state, "rb") as file:
+            mark = file.read()
+        digest = hashlib.sha256(text.encode()).hexdigest().encode()
+        self.that("what its state has", mark.rsplit(b" ", 1)[0], b"bayou-import-1 " + digest + b" server 0 run")
+        other = "bayou: %s: it is of another file, of one that was changed, or at another server; nothing was sent\n"
+        self.put(path, text.replace("1]", "2]"))
+        self.that("a file that was changed", self.importing(path, *words), (3, "", other % state))
+        self.put(path, text)
+        elsewhere = ["--server", "1=" + server.address()]
+        self.that("another server", self.importing(path, *elsewhere), (3, "", other % state))
+        self.that("another file", self.importing(self.file(text + " "), *words, "--state", state)[0], 2)
+        self.that("another file that is read", self.importing(self.file(text.replace("x", "y")), *words, "--state", state), (3, "", other % state))
+        for content in (b"kept by somebody else", b"\n", mark[:-1] + b"x\n", mark + b"more", mark + mark, mark.replace(b"run ", b"run 0"), b"x" + mark):
+            self.put(state, content)
+            self.that("something else in its place", self.importing(path, *words), (3, "", other % state))
+            with open(state, "rb") as file:
+                self.that("stays as it is", file.read(), content)
+        self.put(state, mark)
+        with open(state, "rb") as held:
+            fcntl.flock(held, fcntl.LOCK_EX)
+            self.that("one in use", self.importing(path, *words), (3, "", "bayou: %s: it can't be opened, or another process has it\n" % state))
+        nowhere = os.path.join(os.path.dirname(path), "nowhere", "state")
+        self.that("none that can be made", self.importing(path, *words, "--state", nowhere)[0], 3)
+        self.that("all that put nothing more", self.told_by(server), ([["a", 1]], 1))
+        for length in (0, 5, 14, 15, 40, len(mark) - 3, len(mark) - 1):
+            self.put(state, mark[:length])
+            self.that("a mark of which %d bytes were kept" % length, self.importing(path, *others), done)
+            with open(state, "rb") as file:
+                self.that("is made anew", (file.read() != mark, os.path.getsize(state) > len(mark) - 10), (True, True))
+        self.that("each of them was an import of its own", self.told_by(second), ([["a", 1]], 7))
+        for one in (server, second):
+            self.that("it ends well", one.end()[0], 0)
+
+    def many(self, number):
+        rows = [("k%06d" % at, at) for at in range(number * MOST_OPS)]
+        return rows, self.file(lines_of(0, [number], rows))
+
+    def kill(self):
+        """Calls that are killed at any moment: the next goes on, and each Write is done once."""
+        rows, path = self.many(2000)
+        _, server, words = self.fresh()
+        line, killed, span = "imported %d keys in 2000 writes\n" % len(rows), 0, 2.0
+        while killed < self.kills:
+            process = subprocess.Popen([self.program, "import", path] + words, stdin=subprocess.DEVNULL, stdout=subprocess.DEVNULL, stderr=subprocess.DEVNULL)
+            begun = time.monotonic()
+            with contextlib.suppress(subprocess.TimeoutExpired):
+                process.wait(random.uniform(0, span))
+            process.send_signal(signal.SIGKILL)
+            if process.wait(SECONDS) != -signal.SIGKILL:
+                # (it was faster, and isn't counted: there is nothing left to do)
+                span = min(span, time.monotonic() - begun) / 2
+            killed += 1
+        self.that("the call after all that", self.importing(path, *words), (0, line, ""))
+        self.that("each Write is done once", self.told_by(server), ([[key, value] for key, value in rows], 2000))
+        self.that("it ends well", server.end()[0], 0)
+
+    def shown(self):
+        """At a terminal an import says how far it is, and its line is gone at the end; elsewhere it says nothing."""
+        _, path = self.many(4000)
+        _, server, words = self.fresh()
+        near, far = pty.openpty()
+        process = subprocess.Popen([self.program, "import", path] + words, stdin=subprocess.DEVNULL, stdout=subprocess.PIPE, stderr=far)
+        os.close(far)
+        told, way = b"", server.process
+        with contextlib.suppress(OSError):
+            for stopped in (signal.SIGSTOP, signal.SIGCONT):
+                way.send_signal(stopped)
+                time.sleep(1.2)
+            while True:
+                piece = os.read(near, 4096)
+                if not piece:
+                    break
+                told += piece
+        printed = process.communicate(timeout=CALL_SECONDS)[0]
+        self.that("it ends well", (process.returncode, printed), (0, b"imported 32000 keys in 4000 writes\n"))
+        self.that("it says how far it is", re.fullmatch(rb"(\rbayou: [0-9]+ of 32000 keys)+\r\x1b\[K", told) is not None)
+        self.that("the server ends well", server.end()[0], 0)
+
+    def lost(self):
+        """Replies that are lost, and a server that is killed and starts again: with --wait the call goes on, and each Write is done once."""
+        rows, path = self.many(600)
+        folder, server, _ = self.fresh()
+        way = Cutting(server.port)
+        words = ["--server", "0=127.0.0.1:%d" % way.port, "--wait", "60"]
+        self.that("through a way that is cut", self.importing(path, *words), (0, "imported %d keys in 600 writes\n" % len(rows), ""))
+        self.that("it was cut", way.cuts > 0)
+        self.that("each Write is done once", self.told_by(server), ([[key, value] for key, value in rows], 600))
+        way.end()
+        _, other = self.many(3000)
+        call = [self.program, "import", other, "--server", "0=" + server.address(), "--wait", "60"]
+        process = subprocess.Popen(call, stdin=subprocess.DEVNULL, stdout=subprocess.PIPE, stderr=subprocess.PIPE)
+        time.sleep(0.3)
+        server.process.kill()
+        server.process.wait(SECONDS)
+        port = server.port
+        server = self.served(folder, servers=1, port=port)
+        printed, told = process.communicate(timeout=CALL_SECONDS)
+        self.that("a server that was killed meanwhile", (process.returncode, printed, told), (0, b"imported 24000 keys in 3000 writes\n", b""))
+        self.that("each Write is done once, too", self.told_by(server)[1], 3600)
+        self.that("it ends well", server.end()[0], 0)
+        away = ["--server", "0=127.0.0.1:%d" % port]
+        self.that("a server that is away", self.importing(other, *away), (1, "", "bayou: the server wasn't reached; call it again\n"))
+        self.full()
+
+    def full(self):
+        """A server that has no more room: with more of it the next call goes on."""
+        rows, path = self.many(10)
+        folder, server, words = self.fresh(words=["--limit", "4"])
+        self.that("a server that is full", self.importing(path, *words), (1, "", "bayou: the server refused: full; call it again\n"))
+        self.that("it has what there was room for", self.told_by(server)[1], 4)
+        self.that("it ends well", server.end()[0], 0)
+        server = self.served(folder, servers=1)
+        words = ["--server", "0=" + server.address()]
+        self.that("with more room it goes on", self.importing(path, *words), (0, "imported 80 keys in 10 writes\n", ""))
+        self.that("each Write is done once", self.told_by(server), ([[key, value] for key, value in rows], 10))
+        self.that("it ends well", server.end()[0], 0)
+
     def run(self, groups):
         every = {"words": self.words, "spelled": self.spelled, "prefixes": self.prefixes, "refused": self.refused, "damaged": self.damaged, "live": self.live,
-                 "keyed": self.keyed, "changing": self.changing, "long": self.long}
+                 "keyed": self.keyed, "changing": self.changing, "long": self.long, "trips": self.trips, "files": self.files, "states": self.states,
+                 "kills": self.kill, "lost": self.lost, "shown": self.shown}
         for name in groups or every:
             begun = time.monotonic()
             every[name]()
@@ -339,9 +605,9 @@ class Tries:
 
 
 def main():
-    program, groups = sys.argv[1], sys.argv[2:]
+    program, kills, groups = sys.argv[1], int((sys.argv[2:] or ["12"])[0]), sys.argv[3:]
     with tempfile.TemporaryDirectory() as room:
-        tries = Tries(program, room)
+        tries = Tries(program, kills, room)
         tries.run(groups)
     print("%d passed, %d failed" % (tries.checks.passed, tries.checks.failed))
     return 1 if tries.checks.failed else 0
