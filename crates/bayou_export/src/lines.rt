@@ -108,7 +108,8 @@ fn exported_json(alloc: Global, told: u8, export: &Export) -> Result<Json, Alloc
     let id = export.server.index;
     let name = format!(in alloc; "server-{id}")?;
     let counts = vector_json(alloc, &export.vector, told)?;
-    json!(in alloc; ["exported", name.as_str(), counts, export.rows.len() as u64])
+    let keys = export.rows.len() as u64;
+    json!(in alloc; ["exported", name.as_str(), counts, keys])
 }
 
 /// The first line, which says of what the rows are, with so many counts.

@@ -6,14 +6,10 @@ ghost use Rattle.bayou_import.specs.Marks.{IsBegun, IsMarkOf, IsTorn, mark_start
 
 use bayou_base::ServerId;
 use bayou_device::{Device, ReadFault};
-use hex::encode_to_slice;
 use sha2::{Digest, Sha256};
 use std::alloc::{AllocError, Global};
 use std::str;
 use thiserror::Error;
-
-/// How many digits of base 16 a digest has.
-pub const DIGITS: usize = 64;
 
 /// Of which text an import is, and at which server: what its mark begins with.
 #[derive(Drop)]
@@ -44,26 +40,18 @@ impl From<AllocError> for MarkFault {
 }
 
 // The digits of the digest of the text.
-fn digits_of(text: &[u8]) -> [u8; DIGITS]
-    ensures { result ≡ encode_lower (sha256 text.now) }
+fn digits_of(alloc: Global, text: &[u8]) -> Result<String, AllocError>
+    ensures { IfOk result (λ digits. string_bytes digits ≡ encode_lower (sha256 text.now)) }
 {
-    let mut digits = [0; DIGITS];
     let digest = Sha256::digest(text);
-    let Ok(()) = encode_to_slice(&digest, &mut digits) else {
-        unreachable!();
-    };
-    digits
+    hex::encode(alloc, &digest)
 }
 
 /// The mark of an import of this text at this server.
 pub fn mark_of(alloc: Global, text: &[u8], server: ServerId) -> Result<Mark, AllocError>
     ensures { IfOk result (λ mark. string_bytes mark.start ≡ mark_start text.now server.index) }
 {
-    let digits = digits_of(text);
-    let Ok(digits) = str::from_utf8(&digits) else {
-        return Err(AllocError);
-    };
-    let index = server.index;
+    let (digits, index) = (digits_of(alloc, text)?, server.index);
     let start = format!(in alloc; "bayou-import-1 {digits} server {index} run ")?;
     Ok(Mark { start })
 }
@@ -119,7 +107,7 @@ fn begin<D: Device>(device: &mut D, text: &str) -> Result<(), MarkFault>
 fn is_torn(start: &str, bytes: &[u8]) -> bool
     ensures { IsTrue result → IsTorn start.now bytes.now }
 {
-    if bytes.last() == Some(&b'\n') {
+    if let Some(b'\n') = bytes.last() {
         return false;
     }
     start.as_bytes().starts_with(bytes) || bytes.starts_with(start.as_bytes())
