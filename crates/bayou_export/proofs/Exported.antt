@@ -3,7 +3,7 @@ use Rattle.std.proofs.Common.{◌≡◌, ◌⊎◌, ℕ, List, Result, Ok, Err, 
 use Rattle.bayou_device.specs.declared.device.Device.{Ghosts}
 use Rattle.bayou_export.specs.Exports.{IsExportOf, rows_with}
 use Rattle.bayou_export.specs.declared.journal.Export.{Export}
-use Rattle.bayou_export.specs.declared.journal.Whose.{Whose}
+use Rattle.bayou_export.specs.declared.whose.Whose.{Whose}
 use Rattle.bayou_lang.specs.Writes.{count_of}
 use Rattle.bayou_log.specs.Replay.{replay}
 use Rattle.bayou_renew.specs.Renewing.{IsOnCopy}
@@ -18,6 +18,6 @@ exported d whose prefix bytes server (Err fault) copy from vector rows = tt
 exported d whose prefix bytes server (Ok export) copy from vector rows = record { server = server; copy = copy; whose_rows = from; vector = vector; rows = rows }
 
 -- where memory alone was wanting
-pub memory_alone : {others : ReadingFault → Type 0} (result : Result Export ReadingFault) → IfErr result (λ fault. fault ≡ Memory) → IfErr result (λ fault. (fault ≡ Memory) ⊎ others fault)
-memory_alone (Ok export) only = tt
-memory_alone (Err fault) only = inl only
+pub memory_alone : (others : ReadingFault → Type 0) (result : Result Export ReadingFault) → IfErr result (λ fault. fault ≡ Memory) → IfErr result (λ fault. (fault ≡ Memory) ⊎ others fault)
+memory_alone others (Ok export) only = tt
+memory_alone others (Err fault) only = inl only

@@ -6,7 +6,7 @@ use Rattle.serde_json.specs.Data.{Data, string}
 use Rattle.serde_json.specs.Written.{compact_text}
 use Rattle.bayou_device.specs.declared.device.Device.{Ghosts}
 use Rattle.bayou_export.specs.declared.journal.Export.{Export}
-use Rattle.bayou_export.specs.declared.journal.Whose.{Whose}
+use Rattle.bayou_export.specs.declared.whose.Whose.{Whose}
 use Rattle.bayou_lang.specs.Database.{Database, begins_with}
 use Rattle.bayou_lang.specs.Writes.{count_of}
 use Rattle.bayou_lang.specs.declared.program.Op.TheVariants.{Put}

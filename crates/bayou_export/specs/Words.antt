@@ -1,8 +1,8 @@
 -- What words ask for that say whose rows are exported: this project's own.
-use Rattle.std.specs.Prelude.{◌≡◌, ◌≢◌, ◌<◌, ◌≤◌, ℕ, Bool, List, [], IsNone, IsSome, IsSomeAnd, MatchOption, Option, None, Some, is_some, nat_lt, unwrap_or}
+use Rattle.std.specs.Prelude.{◌≡◌, ◌≢◌, ◌≤◌, ℕ, List, [], IsSome, IsSomeAnd, MatchOption, Option, None, Some, is_some, nat_lt, unwrap_or}
 use Rattle.bayou_base.specs.declared.limits.TheConstants.{SERVERS}
 use Rattle.bayou_base.specs.Key.{prefix_fault}
-use Rattle.bayou_export.specs.declared.journal.Whose.{Whose}
+use Rattle.bayou_export.specs.declared.whose.Whose.{Whose}
 use Rattle.bayou_export.specs.declared.plan.Plan.{Plan}
 use Rattle.bayou_export.specs.declared.plan.PlanFault.{PlanFault}
 use Rattle.bayou_export.specs.declared.plan.PlanFault.TheVariants.{NotTogether, NotOne, KeyOfJournal, NoServer, NoPrefix}

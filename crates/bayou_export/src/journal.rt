@@ -1,6 +1,5 @@
 //! The rows that a journal tells, which stays as it is.
-ghost use Rattle.std.specs.Prelude.{◌≡◌, ◌⊎◌, ◌<◌, ◌≤◌, IfErr, IfOk, OnOk};
-ghost use Rattle.bayou_base.specs.declared.limits.TheConstants.{SERVERS as MOST_SERVERS};
+ghost use Rattle.std.specs.Prelude.{◌≡◌, ◌⊎◌, IfErr, IfOk, OnOk};
 ghost use Rattle.bayou_device.specs.Device.{Rose};
 ghost use Rattle.bayou_lang.specs.Writes.{count_of};
 ghost use Rattle.bayou_log.specs.Replay.{replay};
@@ -9,6 +8,7 @@ ghost use Rattle.bayou_renew.specs.Renewing.{IsNoJournal};
 ghost use Rattle.bayou_renew.specs.declared.fault.ReadingFault.TheVariants.{Device as CallFailed, Memory};
 
 use crate::rows::rows_of;
+use crate::whose::Whose;
 use bayou_base::{Key, Prefix, ServerId, Value, Vector};
 use bayou_device::{Device, MemoryDevice, OpenGate};
 use bayou_journal::CarefulDevice;
@@ -18,14 +18,6 @@ use bayou_renew::files::open_old;
 use bayou_server::Server;
 use std::alloc::Global;
 use std::fs::{File, Files};
-
-/// Whose journal it is: which server's, of how many.
-#[derive(Clone, Copy, Debug, PartialEq, Eq)]
-pub struct Whose {
-    pub id: ServerId,
-    pub count: u8,
-    pub ghost among: { (id.index < count) × (count ≤ MOST_SERVERS) },
-}
 
 /// The rows of a server's database, in the order of keys.
 #[derive(Drop)]

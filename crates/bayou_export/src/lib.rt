@@ -11,10 +11,12 @@ pub mod journal;
 pub mod lines;
 pub mod plan;
 pub mod rows;
+pub mod whose;
 pub mod writing;
 
-pub use journal::{Export, Whose, export_journal, export_of};
+pub use journal::{Export, export_journal, export_of};
 pub use lines::told_counts;
 pub use plan::{Plan, PlanFault};
 pub use rows::rows_of;
+pub use whose::Whose;
 pub use writing::write_export;

@@ -9,7 +9,7 @@ ghost use Rattle.bayou_export.specs.Exports.{exported_json as spelled_exported, 
 ghost use Rattle.bayou_export.specs.Laws.{line_ends};
 
 use crate::journal::Export;
-use bayou_base::{Key, ServerId, Value, Vector};
+use bayou_base::{Key, SERVERS, Value, Vector};
 use bayou_print::Printer;
 use serde_json::{Value as Json, json};
 use std::alloc::{AllocError, Global};
@@ -71,10 +71,10 @@ pub fn told_counts(vector: &Vector, least: u8) -> u8
     ensures all { AllByRecursion (λ count. count ≡ 0) (drop result vector.now) }
     ensures no_more { (result ≡ least) ⊎ (slice_index vector.now (result - 1) ≢ 0) }
 {
-    let mut told = bayou_base::SERVERS as u8;
+    let counts = vector.counts();
+    let mut told = SERVERS as u8;
     while told > least {
-        let last = ServerId { index: told - 1 };
-        if vector.get(last) != 0 {
+        if counts[usize::from(told) - 1] != 0 {
             return told;
         }
         told -= 1;

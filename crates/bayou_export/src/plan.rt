@@ -1,10 +1,10 @@
 //! Whose rows are exported, as the words of a command line say it.
-ghost use Rattle.std.specs.Prelude.{◌≡◌, ◌≢◌, ◌<◌, ◌≤◌, IfNone, IfSome, MatchResult, Some};
+ghost use Rattle.std.specs.Prelude.{◌≡◌, ◌≤◌, IfNone, IfSome, IsSomeAnd, MatchResult, None, Ok};
 ghost use Rattle.std.specs.Option.{option_copied};
 ghost use Rattle.bayou_base.specs.declared.limits.TheConstants.{SERVERS as MOST_SERVERS};
 ghost use Rattle.bayou_export.specs.Words.{IsPlanOf, IsWhose, Refuses, RefusesWhose, SaysNoPrefix, SaysPrefix};
 
-use crate::journal::Whose;
+use crate::whose::Whose;
 use bayou_base::{Prefix, SERVERS, ServerId};
 use thiserror::Error;
 

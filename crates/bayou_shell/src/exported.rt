@@ -1,5 +1,5 @@
 //! The rows of a server, taken out of its store, from the words to the exit status.
-ghost use Rattle.std.specs.Prelude.{◌≡◌, ◌⊎◌, ◌≤◌, ℕ, Err, IfErr, IfOk, IfSome, List, MatchResult, None, Option, option_map, string_bytes};
+ghost use Rattle.std.specs.Prelude.{◌≡◌, ◌⊎◌, ◌≤◌, ℕ, Err, IfErr, IfOk, List, MatchResult, None, Option, option_map, string_bytes};
 ghost use Rattle.bayou_base.specs.declared.limits.TheConstants.{SERVERS as MOST_SERVERS};
 ghost use Rattle.bayou_command.specs.Export.{export_seen};
 ghost use Rattle.bayou_connect.specs.Listing.{AreListed};
@@ -13,7 +13,7 @@ ghost use Rattle.bayou_streams.specs.Account.{account};
 use crate::connected::{kept_name, kept_plan};
 use crate::keyed::{key_fault_line, named_key};
 use crate::telling::{tell_line, told_line};
-use bayou_base::Prefix;
+use bayou_base::{Prefix, SERVERS};
 use bayou_command::Exporting;
 use bayou_connect::{Plan as Places, PlanFault as PlacesFault, Taken, take_plan};
 use bayou_export::{Export, Plan, PlanFault, Whose, export_journal, told_counts, write_export};
@@ -40,7 +40,6 @@ pub struct Extract {
     key: Option<String>,
     /// How many servers there are, where that is said.
     count: Option<u8>,
-    ghost count_in_range: { IfSome count (λ number. number ≤ MOST_SERVERS) },
 }
 
 /// The exit status where no server told its rows.
@@ -223,10 +222,10 @@ where
 
 // How many servers are known of: as many as is said, or as this one's number needs.
 fn least_of(count: Option<u8>, export: &Export) -> u8
-    requires { IfSome count (λ number. number ≤ MOST_SERVERS) }
     ensures { result ≤ MOST_SERVERS }
 {
-    count.unwrap_or(0).max(export.server.index + 1)
+    let least = count.unwrap_or(0).max(export.server.index + 1);
+    least.min(SERVERS as u8)
 }
 
 // Prints what was found, and gives the exit status.
@@ -237,7 +236,6 @@ fn print_found<W: Write, E: Write>(
     output: &mut Output<W>,
     errors: &mut E,
 ) -> u8
-    requires { IfSome count (λ number. number ≤ MOST_SERVERS) }
     ensures status { (result ≡ 0) ⊎ (result ≡ FAILED) }
     ensures made { result ≡ 0 → PrintsExport export.now (account W.contents output.old) (account W.contents output.new) }
 {

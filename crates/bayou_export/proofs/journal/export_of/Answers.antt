@@ -7,4 +7,4 @@ returns-in-Ok-clause-exported g c = λ modelled.
     c.export_at.ensures.vector c.export_at.ensures.rows
 
 pub returns-in-Ok-clause-refused : goal.returns-in-Ok-clause-refused
-returns-in-Ok-clause-refused g c = λ modelled. memory_alone c.export_at.result c.export_at.ensures.fault
+returns-in-Ok-clause-refused g c = λ modelled. memory_alone _ c.export_at.result c.export_at.ensures.fault

@@ -6,7 +6,7 @@ use Rattle.bayou_export.proofs.Plain.{exported_plain}
 use Rattle.bayou_export.proofs.lines.exported_line.Goals as goal
 
 pub line_of-requires : goal.line_of-requires
-line_of-requires c = ap has_float c.in_ok-exported_json.ensures ∙ exported_plain c.args.told c.args.export.now
+line_of-requires c = ap has_float c.in_ok-json.ensures ∙ exported_plain c.args.told c.args.export.now
 
 pub returns : goal.returns
-returns c = IfOk-weaker c.line_of.result _ _ (λ line is. is ∙ ap (λ (json : Data). compact_text json ++ 10 ∷ []) c.in_ok-exported_json.ensures) c.line_of.ensures
+returns c = IfOk-weaker c.line_of.result _ _ (λ line is. is ∙ ap (λ (json : Data). compact_text json ++ 10 ∷ []) c.in_ok-json.ensures) c.line_of.ensures
