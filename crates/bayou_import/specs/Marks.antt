@@ -1,8 +1,8 @@
 -- What is kept of an import: this project's own.
-use Rattle.std.specs.Prelude.{◌≡◌, ◌⊎◌, ◌<◌, ℕ, List, [], ◌∷◌, ◌++◌, codes, decimal}
+use Rattle.std.specs.Prelude.{◌≡◌, ◌⊎◌, ◌<◌, ◌++◌, ℕ, List, IsTrue, codes, decimal, nat_eq}
+use Rattle.std.specs.List.{starts_with}
 use Rattle.hex.specs.Hex.{encode_lower}
 use Rattle.sha2.specs.Sha256.{sha256}
-use Rattle.bayou_device.specs.Device.{BeginsWith}
 
 -- what the mark of an import of this text at this server begins with
 abbrev pub mark_start : (text : List ℕ) → (server : ℕ) → List ℕ
@@ -18,7 +18,7 @@ IsMarkOf start bytes run = (0 < run) × (bytes ≡ mark_text start run)
 
 -- the bytes are a front of such a mark, or none
 abbrev pub IsTorn : (start bytes : List ℕ) → Type 0
-IsTorn start bytes = BeginsWith bytes start ⊎ BeginsWith start bytes
+IsTorn start bytes = IsTrue (starts_with nat_eq start bytes) ⊎ IsTrue (starts_with nat_eq bytes start)
 
 -- The import goes on under the run that its mark has; or there was none, or a front of one, it was begun under the run that was drawn, and its mark lasts.
 abbrev pub IsBegun : (start old new kept : List ℕ) → (drawn run : ℕ) → Type 0

@@ -4,17 +4,13 @@ use Rattle.std.specs.Option.{option_map, option_map_or}
 use Rattle.std.specs.Str.{bytes_eq}
 use Rattle.serde_json.specs.Data.{Data}
 use Rattle.serde_json.specs.Find.{as_i64, as_number, as_str, as_u64}
-use Rattle.serde_json.specs.Read.{read_text}
+use Rattle.serde_json.specs.Read.{read}
 use Rattle.bayou_base.specs.Key.{key_fault}
 use Rattle.bayou_base.specs.declared.limits.TheConstants.{MAX_TEXT_BYTES}
 use Rattle.bayou_base.specs.declared.value.Value.{Value}
 use Rattle.bayou_base.specs.declared.value.Value.TheVariants.{Num, Text}
 use Rattle.bayou_log.specs.Rows.{Row}
 use Rattle.bayou_text.specs.Reading.{worded}
-
--- the word that an array begins with, and what stands behind it
-abbrev pub parts_of : Data → Option (List ℕ × List Data)
-parts_of d = worded d
 
 -- a key is a text that may be one
 abbrev pub key_named : List ℕ → Option (List ℕ)
@@ -39,7 +35,7 @@ row_of_parts word (one ∷ []) = None
 row_of_parts word (one ∷ two ∷ three ∷ more) = None
 
 abbrev pub row_said : Data → Option Row
-row_said d = option_and_then (λ (parts : List ℕ × List Data). row_of_parts parts.0 parts.1) (parts_of d)
+row_said d = option_and_then (λ (parts : List ℕ × List Data). row_of_parts parts.0 parts.1) (worded d)
 
 -- ["exported", name, counts, keys], behind its word: how many keys follow
 abbrev pub keys_of_parts : List ℕ → List Data → Option ℕ
@@ -50,11 +46,11 @@ keys_of_parts word (one ∷ two ∷ []) = None
 keys_of_parts word (one ∷ two ∷ three ∷ four ∷ more) = None
 
 abbrev pub keys_said : Data → Option ℕ
-keys_said d = option_and_then (λ (parts : List ℕ × List Data). keys_of_parts parts.0 parts.1) (parts_of d)
+keys_said d = option_and_then (λ (parts : List ℕ × List Data). keys_of_parts parts.0 parts.1) (worded d)
 
 -- the line says the row
 abbrev pub SaysRow : (line : List ℕ) → Row → Type 0
-SaysRow line row = option_and_then row_said (read_text line) ≡ Some row
+SaysRow line row = option_and_then row_said (read line) ≡ Some row
 
 -- A line of the text is this, and that stands behind its line feed; the last may lack it.
 abbrev pub SplitsLine : (text line behind : List ℕ) → Type 0
@@ -70,5 +66,5 @@ pub record IsExport (text : List ℕ) (rows : List Row) : Type 0 where
   pub first : List ℕ
   pub behind : List ℕ
   pub split : SplitsLine text first behind
-  pub number : option_and_then keys_said (read_text first) ≡ Some (length rows)
+  pub number : option_and_then keys_said (read first) ≡ Some (length rows)
   pub each : SaysRows behind rows

@@ -1,6 +1,6 @@
 //! The lines of an export, read again.
 ghost use Rattle.std.specs.Prelude.{◌≡◌, IfOk, option_and_then, option_map};
-ghost use Rattle.serde_json.specs.Read.{read_text};
+ghost use Rattle.serde_json.specs.Read.{read};
 ghost use Rattle.serde_json.specs.View.{view};
 ghost use Rattle.bayou_import.specs.Rows.{IsExport, SaysRows, SplitsLine, keys_said, row_said};
 
@@ -36,7 +36,7 @@ impl From<AllocError> for ReadFault {
 
 // What the line says as JSON, if it is that.
 fn json_of(alloc: Global, line: &str) -> Result<Option<Json>, AllocError>
-    ensures { IfOk result (λ json. option_map (λ json. view json) json ≡ read_text line.now) }
+    ensures { IfOk result (λ json. option_map (λ json. view json) json ≡ read line.now) }
 {
     match Json::from_str(alloc, line) {
         Ok(json) => Ok(Some(json)),
@@ -52,7 +52,7 @@ fn json_of(alloc: Global, line: &str) -> Result<Option<Json>, AllocError>
 
 // The row that the line says, if it says one.
 fn row_on(alloc: Global, line: &str) -> Result<Option<(Key, Value)>, AllocError>
-    ensures { IfOk result (λ row. row ≡ option_and_then row_said (read_text line.now)) }
+    ensures { IfOk result (λ row. row ≡ option_and_then row_said (read line.now)) }
 {
     match json_of(alloc, line)? {
         Some(json) => Ok(row_in(&json)),
@@ -62,7 +62,7 @@ fn row_on(alloc: Global, line: &str) -> Result<Option<(Key, Value)>, AllocError>
 
 // How many keys the line says that follow, if it says that.
 fn number_on(alloc: Global, line: &str) -> Result<Option<u64>, AllocError>
-    ensures { IfOk result (λ number. number ≡ option_and_then keys_said (read_text line.now)) }
+    ensures { IfOk result (λ number. number ≡ option_and_then keys_said (read line.now)) }
 {
     match json_of(alloc, line)? {
         Some(json) => Ok(keys_in(&json)),
@@ -89,9 +89,11 @@ fn rows_in(alloc: Global, text: &str, first: u64) -> Result<Vec<(Key, Value)>, R
     let mut number = first;
     while !rest.is_empty() {
         let (line, behind) = first_line(rest);
-        match row_on(alloc, line)? {
-            Some(row) => rows.push(row)?,
-            None => return Err(ReadFault::NoRow(number)),
+        let Some(row) = row_on(alloc, line)? else {
+            return Err(ReadFault::NoRow(number));
+        };
+        if rows.push(row).is_err() {
+            return Err(ReadFault::OutOfMemory);
         }
         rest = behind;
         number = number.saturating_add(1);

@@ -1,19 +1,28 @@
 //! A row, as a line of an export says it.
 ghost use Rattle.std.specs.Prelude.{◌≡◌, map, option_map};
 ghost use Rattle.serde_json.specs.View.{view};
-ghost use Rattle.bayou_import.specs.Rows.{key_said, keys_of_parts, keys_said, parts_of, row_of_parts, row_said, value_said};
+ghost use Rattle.bayou_text.specs.Reading.{headed, worded};
+ghost use Rattle.bayou_import.specs.Rows.{key_said, keys_of_parts, keys_said, row_of_parts, row_said, value_said};
 
 use bayou_base::{Key, Value};
 use serde_json::Value as Json;
 
-// The word that an array begins with, and what stands behind it.
-fn worded(json: &Json) -> Option<(&str, &[Json])>
-    ensures { option_map (λ parts. (parts.0.now, map view parts.1.now)) result ≡ parts_of (view json.now) }
+// The word that a list begins with, and what stands behind it.
+fn headed(list: &[Json]) -> Option<(&str, &[Json])>
+    ensures { option_map (λ parts. (parts.0.now, map view parts.1.now)) result ≡ headed (map view list.now) }
 {
-    let [first, rest @ ..] = json.as_array()?.as_slice() else {
+    let [first, rest @ ..] = list else {
         return None;
     };
     Some((first.as_str()?, rest))
+}
+
+// The word that an array begins with, and what stands behind it.
+#[tactic(auto, using(crate::proofs::Views::listed_view))]
+fn worded(json: &Json) -> Option<(&str, &[Json])>
+    ensures { option_map (λ parts. (parts.0.now, map view parts.1.now)) result ≡ worded (view json.now) }
+{
+    headed(json.as_array()?.as_slice())
 }
 
 // The key that this says, if it says one.
