@@ -451,7 +451,7 @@ class Tries:
             ("a key more", head + rows + line(["put", "c", 3]), "line 1 says 2 keys, and 3 follow"), ("an empty line", head + "\n" + rows, row % 2),
             ("an empty line at the end", head + rows + "\n", row % 4), ("another op", head + line(["del", "a"]) + rows, row % 2),
             ("no value", head + line(["put", "a"]), row % 2), ("a member more of a row", head + line(["put", "a", 1, 2]), row % 2),
-            ("a term", head + rows[:12] + line(["put", "b", ["copy", "a"]]), row % 3),
+            ("a term", head + line(["put", "a", 1]) + line(["put", "b", ["copy", "a"]]), row % 3),
             ("a fraction", head + '["put","a",1.5]\n', row % 2), ("a number too great", head + '["put","a",9223372036854775808]\n', row % 2),
             ("a text too long", head + line(["put", "a", "x" * 33]), row % 2), ("a key too long", head + line(["put", "a" * 33, 1]), row % 2),
             ("no key", head + line(["put", "", 1]), row % 2), ("capitals", head + line(["put", "A", 1]), row % 2), ("no JSON", head + '["put","a",1\n', row % 2),
@@ -482,13 +482,13 @@ class Tries:
         digest = hashlib.sha256(text.encode()).hexdigest().encode()
         self.that("what its state has", mark.rsplit(b" ", 1)[0], b"bayou-import-1 " + digest + b" server 0 run")
         other = "bayou: %s: it is of another file, of one that was changed, or at another server; nothing was sent\n"
-        self.put(path, text.replace("1]", "2]"))
+        self.put(path, text.replace('"a",1', '"a",2').encode())
         self.that("a file that was changed", self.importing(path, *words), (3, "", other % state))
-        self.put(path, text)
+        self.put(path, text.encode())
         elsewhere = ["--server", "1=" + server.address()]
         self.that("another server", self.importing(path, *elsewhere), (3, "", other % state))
         self.that("another file", self.importing(self.file(text + " "), *words, "--state", state)[0], 2)
-        self.that("another file that is read", self.importing(self.file(text.replace("x", "y")), *words, "--state", state), (3, "", other % state))
+        self.that("another file that is read", self.importing(self.file(text.replace('"x"', '"y"')), *words, "--state", state), (3, "", other % state))
         for content in (b"kept by somebody else", b"\n", mark[:-1] + b"x\n", mark + b"more", mark + mark, mark.replace(b"run ", b"run 0"), b"x" + mark):
             self.put(state, content)
             self.that("something else in its place", self.importing(path, *words), (3, "", other % state))
@@ -516,9 +516,9 @@ class Tries:
 
     def kill(self):
         """Calls that are killed at any moment: the next goes on, and each Write is done once."""
-        rows, path = self.many(2000)
+        rows, path = self.many(800)
         _, server, words = self.fresh()
-        line, killed, span = "imported %d keys in 2000 writes\n" % len(rows), 0, 2.0
+        line, killed, span = "imported %d keys in 800 writes\n" % len(rows), 0, 2.0
         while killed < self.kills:
             process = subprocess.Popen([self.program, "import", path] + words, stdin=subprocess.DEVNULL, stdout=subprocess.DEVNULL, stderr=subprocess.DEVNULL)
             begun = time.monotonic()
@@ -530,12 +530,12 @@ class Tries:
                 span = min(span, time.monotonic() - begun) / 2
             killed += 1
         self.that("the call after all that", self.importing(path, *words), (0, line, ""))
-        self.that("each Write is done once", self.told_by(server), ([[key, value] for key, value in rows], 2000))
+        self.that("each Write is done once", self.told_by(server), ([[key, value] for key, value in rows], 800))
         self.that("it ends well", server.end()[0], 0)
 
     def shown(self):
         """At a terminal an import says how far it is, and its line is gone at the end; elsewhere it says nothing."""
-        _, path = self.many(4000)
+        _, path = self.many(800)
         _, server, words = self.fresh()
         near, far = pty.openpty()
         process = subprocess.Popen([self.program, "import", path] + words, stdin=subprocess.DEVNULL, stdout=subprocess.PIPE, stderr=far)
@@ -551,8 +551,8 @@ class Tries:
                     break
                 told += piece
         printed = process.communicate(timeout=CALL_SECONDS)[0]
-        self.that("it ends well", (process.returncode, printed), (0, b"imported 32000 keys in 4000 writes\n"))
-        self.that("it says how far it is", re.fullmatch(rb"(\rbayou: [0-9]+ of 32000 keys)+\r\x1b\[K", told) is not None)
+        self.that("it ends well", (process.returncode, printed), (0, b"imported 6400 keys in 800 writes\n"))
+        self.that("it says how far it is", re.fullmatch(rb"(\rbayou: [0-9]+ of 6400 keys)+\r\x1b\[K", told) is not None)
         self.that("the server ends well", server.end()[0], 0)
 
     def lost(self):
@@ -565,7 +565,7 @@ class Tries:
         self.that("it was cut", way.cuts > 0)
         self.that("each Write is done once", self.told_by(server), ([[key, value] for key, value in rows], 600))
         way.end()
-        _, other = self.many(3000)
+        _, other = self.many(1000)
         call = [self.program, "import", other, "--server", "0=" + server.address(), "--wait", "60"]
         process = subprocess.Popen(call, stdin=subprocess.DEVNULL, stdout=subprocess.PIPE, stderr=subprocess.PIPE)
         time.sleep(0.3)
@@ -574,8 +574,8 @@ class Tries:
         port = server.port
         server = self.served(folder, servers=1, port=port)
         printed, told = process.communicate(timeout=CALL_SECONDS)
-        self.that("a server that was killed meanwhile", (process.returncode, printed, told), (0, b"imported 24000 keys in 3000 writes\n", b""))
-        self.that("each Write is done once, too", self.told_by(server)[1], 3600)
+        self.that("a server that was killed meanwhile", (process.returncode, printed, told), (0, b"imported 8000 keys in 1000 writes\n", b""))
+        self.that("each Write is done once, too", self.told_by(server)[1], 1600)
         self.that("it ends well", server.end()[0], 0)
         away = ["--server", "0=127.0.0.1:%d" % port]
         self.that("a server that is away", self.importing(other, *away), (1, "", "bayou: the server wasn't reached; call it again\n"))

@@ -1,8 +1,9 @@
 //! What is kept of an import: of which text it is, at which server, and under which run.
-ghost use Rattle.std.specs.Prelude.{◌≡◌, ◌<◌, IfOk, IfSome, IsTrue, OnOk, string_bytes};
+ghost use Rattle.std.specs.Prelude.{◌≡◌, ◌<◌, IfOk, IfSome, OnOk, string_bytes, true};
+ghost use Rattle.std.specs.List.{list_all};
 ghost use Rattle.hex.specs.Hex.{encode_lower};
 ghost use Rattle.sha2.specs.Sha256.{sha256};
-ghost use Rattle.bayou_import.specs.Marks.{IsBegun, IsMarkOf, IsTorn, mark_start, mark_text};
+ghost use Rattle.bayou_import.specs.Marks.{IsBegun, IsMarkOf, IsTorn, is_digit, mark_start, mark_text};
 
 use bayou_base::ServerId;
 use bayou_device::{Device, ReadFault};
@@ -103,14 +104,27 @@ fn begin<D: Device>(device: &mut D, text: &str) -> Result<(), MarkFault>
     Ok(())
 }
 
+fn is_digit(byte: u8) -> bool
+    ensures { result ≡ is_digit byte }
+{
+    matches!(byte, b'0'..=b'9')
+}
+
+fn are_digits(bytes: &[u8]) -> bool
+    ensures { result ≡ list_all is_digit bytes.now }
+{
+    bytes.iter().all(|byte| is_digit(*byte))
+}
+
 // Whether these bytes are a front of the mark that begins so, which was begun and not kept.
 fn is_torn(start: &str, bytes: &[u8]) -> bool
-    ensures { IsTrue result → IsTorn start.now bytes.now }
+    ensures { result ≡ true → IsTorn start.now bytes.now }
 {
-    if let Some(b'\n') = bytes.last() {
-        return false;
+    let start = start.as_bytes();
+    if bytes.starts_with(start) {
+        return are_digits(&bytes[start.len()..]);
     }
-    start.as_bytes().starts_with(bytes) || bytes.starts_with(start.as_bytes())
+    start.starts_with(bytes)
 }
 
 /// The run under which the import was begun that the device keeps, or this one, which it keeps from then on. A mark that lacks its end was begun and not
