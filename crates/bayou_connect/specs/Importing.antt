@@ -1,5 +1,6 @@
 -- Rows that are put into a store: this project's own.
-use Rattle.std.specs.Prelude.{◌≡◌, ℕ, List, [], None, Result, Ok, Err, map}
+use Rattle.std.specs.Prelude.{◌≡◌, ◌*◌, ◌+◌, ◌<◌, ◌≤◌, ℕ, List, [], None, Result, Ok, Err, map}
+use Rattle.bayou_base.specs.declared.limits.TheConstants.{MAX_OPS}
 use Rattle.bayou_client.specs.Operating.{Asking}
 use Rattle.bayou_client.specs.declared.fault.LinkFault.{LinkFault}
 use Rattle.bayou_client.specs.declared.fault.LinkFault.TheVariants as links
@@ -21,6 +22,10 @@ pub record Puts (rows : List Row) (program : Program) : Type 0 where
   pub check : program.check.items ≡ []
   pub update : program.update.items ≡ map put_of rows
   pub merge : program.merge.items ≡ []
+
+-- so many rows take so many Writes, each with as many of them as it may have
+abbrev pub TakesWrites : (rows writes : ℕ) → Type 0
+TakesWrites rows writes = (rows ≤ MAX_OPS * writes) × (MAX_OPS * writes < rows + MAX_OPS)
 
 -- the session of this run stands behind so many Writes, and may ask none of them again
 pub record IsBegunAt (run writes : ℕ) (asker : Asking) : Type 0 where

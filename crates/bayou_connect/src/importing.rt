@@ -1,7 +1,7 @@
 //! Rows that are put into a store, at one server, under names by which each Write acts once.
-ghost use Rattle.std.specs.Prelude.{◌≡◌, ◌*◌, ◌+◌, ◌<◌, ◌≤◌, IfOk, None, length, map};
+ghost use Rattle.std.specs.Prelude.{◌≡◌, ◌<◌, ◌≤◌, IfOk, None, length, map};
 ghost use Rattle.bayou_base.specs.declared.limits.TheConstants.{MAX_OPS as MOST_OPS, MAX_PLACES as MOST_PLACES};
-ghost use Rattle.bayou_connect.specs.Importing.{IsBegunAt, Puts, put_of, unput_as};
+ghost use Rattle.bayou_connect.specs.Importing.{IsBegunAt, Puts, TakesWrites, put_of, unput_as};
 
 use crate::connecting::greeter_of;
 use crate::desk::OWN;
@@ -150,6 +150,37 @@ impl<'a, T: Sockets + Wait + Clock> Putting<'a, T> {
         Ok(stopped)
     }
 
+    // Puts the rows, as many a Write as it may have, one Write after another, and tells how far it is.
+    fn put_all<E: Write>(
+        &mut self,
+        rows: &[(Key, Value)],
+        progress: &mut Progress,
+        errors: &mut E,
+    ) -> Result<Put, ConnectFault>
+        ensures { IfOk result (λ put. put.stopped ≡ None → TakesWrites (length rows.now) put.writes) }
+    {
+        let mut writes: u32 = 0;
+        let mut rest = rows;
+        while !rest.is_empty() {
+            if writes >= MAX_WRITES {
+                let stopped = Some(NotPut::Refused(Refusal::LogFull));
+                return Ok(Put { writes, stopped });
+            }
+            let (first, behind) = rest.split_at(MAX_OPS.min(rest.len()));
+            let stopped = self.put(first, writes)?;
+            if stopped.is_some() {
+                return Ok(Put { writes, stopped });
+            }
+            writes += 1;
+            rest = behind;
+            progress.tell(self.rt, self.alloc, errors, rows.len() - rest.len())?;
+        }
+        Ok(Put {
+            writes,
+            stopped: None,
+        })
+    }
+
     // Tells, as far as it can be told, who answered in place of the server, where that wasn't told yet.
     fn tell_stranger<E: Write>(&mut self, errors: &mut E) -> Result<(), ConnectFault> {
         let (id, address) = (self.target.place.id.index, self.target.place.address);
@@ -177,7 +208,7 @@ where
     E: Write,
     T: Sockets + Wait + Clock + RandomSource,
     // Where nothing stopped it, there are as many Writes as can put them.
-    ensures { IfOk result (λ put. put.stopped ≡ None → (length rows.now ≤ MOST_OPS * put.writes) × (MOST_OPS * put.writes < length rows.now + MOST_OPS)) }
+    ensures { IfOk result (λ put. put.stopped ≡ None → TakesWrites (length rows.now) put.writes) }
 {
     let mut putting = Putting {
         rt,
@@ -187,27 +218,8 @@ where
         greeter: greeter_of(rt, alloc, key)?,
     };
     let mut progress = Progress::new(rt, is_terminal, rows.len());
-    let mut writes: u32 = 0;
-    let mut rest = rows;
-    while !rest.is_empty() {
-        let (first, behind) = rest.split_at(MAX_OPS.min(rest.len()));
-        let stopped = if writes < MAX_WRITES {
-            putting.put(first, writes)?
-        } else {
-            Some(NotPut::Refused(Refusal::LogFull))
-        };
-        if stopped.is_some() {
-            progress.clear(errors);
-            putting.tell_stranger(errors)?;
-            return Ok(Put { writes, stopped });
-        }
-        writes += 1;
-        rest = behind;
-        progress.tell(rt, alloc, errors, rows.len() - rest.len())?;
-    }
+    let put = putting.put_all(rows, &mut progress, errors);
     progress.clear(errors);
-    Ok(Put {
-        writes,
-        stopped: None,
-    })
+    putting.tell_stranger(errors)?;
+    put
 }

@@ -1,9 +1,9 @@
 -- The lines that words ask to be put into a store, and what is printed then: this project's own.
-use Rattle.std.specs.Prelude.{◌≡◌, ◌*◌, ◌+◌, ◌<◌, ◌≤◌, ◌++◌, ℕ, List, MatchResult, Option, None, Some, codes, decimal, option_map, string_bytes}
-use Rattle.bayou_base.specs.declared.limits.TheConstants.{MAX_OPS}
+use Rattle.std.specs.Prelude.{◌≡◌, ◌++◌, ℕ, List, MatchResult, Option, None, Some, codes, decimal, option_map, string_bytes}
 use Rattle.bayou_command.specs.Connect.{Connection}
 use Rattle.bayou_command.specs.Import.{Import as Asking}
 use Rattle.bayou_command.specs.Options.{standard}
+use Rattle.bayou_connect.specs.Importing.{TakesWrites}
 use Rattle.bayou_shell.specs.Plans.{IsPlanOfPlaces, RefusesConnection}
 use Rattle.bayou_shell.specs.declared.imported.Intake.{Intake}
 use Rattle.bayou_streams.specs.Account.{Account, TakesBytes}
@@ -37,10 +37,6 @@ pub record IsIntakeOf (asked : Asking) (intake : Intake) : Type 0 where
   pub file : string_bytes intake.file ≡ asked.file
   pub state : string_bytes intake.state ≡ state_named asked
   pub key : option_map (λ name. string_bytes name) intake.key ≡ asked.key
-
--- so many keys take so many Writes
-abbrev pub TakesWrites : (keys writes : ℕ) → Type 0
-TakesWrites keys writes = (keys ≤ MAX_OPS * writes) × (MAX_OPS * writes < keys + MAX_OPS)
 
 -- the line that tells that so many keys are put, as so many Writes
 abbrev pub imported_text : (keys writes : ℕ) → List ℕ

@@ -1,7 +1,8 @@
 //! The lines of an export, put into a store, from the words to the exit status.
 ghost use Rattle.std.specs.Prelude.{◌≡◌, ◌⊎◌, ◌<◌, IfErr, IfOk, IfSome, MatchResult, is_some, length, option_map, string_bytes, true};
 ghost use Rattle.bayou_command.specs.Import.{import_seen};
-ghost use Rattle.bayou_shell.specs.Imports.{PrintsImport, TakesWrites, imported_text, places_met, state_named};
+ghost use Rattle.bayou_connect.specs.Importing.{TakesWrites};
+ghost use Rattle.bayou_shell.specs.Imports.{PrintsImport, imported_text, places_met, state_named};
 ghost use Rattle.bayou_shell.specs.Plans.{IsPlanOfPlaces, RefusesConnection};
 ghost use Rattle.bayou_streams.specs.Account.{TakesBytes, account};
 
