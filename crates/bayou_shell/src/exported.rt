@@ -75,7 +75,7 @@ fn plan_in(exporting: &Exporting<'_>) -> Result<Plan, PlanFault>
     ensures { MatchResult result (IsWanted (export_seen exporting.now)) (RefusesExport (export_seen exporting.now)) }
 {
     Plan::new(
-        exporting.servers.len(),
+        exporting.servers.as_slice().len(),
         exporting.count,
         exporting.key,
         exporting.folder,
@@ -84,12 +84,31 @@ fn plan_in(exporting: &Exporting<'_>) -> Result<Plan, PlanFault>
     )
 }
 
+// The folder that the words name, where they do.
+fn folder_in<'a>(exporting: &Exporting<'a>) -> &'a str
+    ensures { result.now ≡ folder_named (export_seen exporting.now) }
+{
+    match exporting.folder {
+        Some(folder) => folder,
+        None => "",
+    }
+}
+
+// The number that the words say, where they do.
+fn id_in(exporting: &Exporting<'_>) -> u8
+    ensures { result ≡ number_named (export_seen exporting.now) }
+{
+    match exporting.id {
+        Some(id) => id,
+        None => 0,
+    }
+}
+
 // The file of the journal that the words name, where they do.
 fn path_in(alloc: Global, exporting: &Exporting<'_>) -> Result<String, AllocError>
     ensures { IfOk result (λ path. string_bytes path ≡ journal_name (folder_named (export_seen exporting.now)) (number_named (export_seen exporting.now))) }
 {
-    let folder = exporting.folder.unwrap_or("");
-    let id = exporting.id.unwrap_or(0);
+    let (folder, id) = (folder_in(exporting), id_in(exporting));
     format!(in alloc; "{folder}/server-{id}.journal")
 }
 
