@@ -61,6 +61,14 @@ pub data Asked : Type 0 where
 abbrev pub folder_of : List Row → Text
 folder_of rows = text_of folder_name rows
 
+-- of the commands that take a store as a whole, the one that was entered, or else a run
+abbrev pub asked_beside : Text → List Row → Asked
+asked_beside name rows =
+    if bytes_eq name (codes "renew") then a_renewal (renewal_of rows)
+    else if bytes_eq name (codes "export") then an_export (export_of rows)
+    else if bytes_eq name (codes "import") then an_import (import_of rows)
+    else a_run (input_of rows)
+
 -- of the program's nine commands, the one that was entered
 abbrev pub asked_by : Option (Text × List Row) → Asked
 asked_by None = a_run standard
@@ -70,10 +78,7 @@ asked_by (Some (name, rows)) =
     else if bytes_eq name (codes "serve") then a_serve (service_of rows)
     else if bytes_eq name (codes "connect") then a_connect (connection_of rows)
     else if bytes_eq name (codes "key") then a_key (text_of (codes "name") rows) (text_of file_name rows)
-    else if bytes_eq name (codes "renew") then a_renewal (renewal_of rows)
-    else if bytes_eq name (codes "export") then an_export (export_of rows)
-    else if bytes_eq name (codes "import") then an_import (import_of rows)
-    else a_run (input_of rows)
+    else asked_beside name rows
 
 -- the words are no mistake, and ask for this
 pub record AskFor (words : List Text) (asked : Asked) : Type 0 where

@@ -8,7 +8,7 @@
 ghost use Rattle.std.specs.Prelude.{◌≡◌, ◌∷◌, ◌++◌, [], ℕ, IfOk, List, Some, codes, false, map, true};
 ghost use Rattle.clap.specs.declared.builder.command.Command.TheViews.{out-Command as fields_of};
 ghost use Rattle.clap.specs.Words.{app_of, found_of, kind_of, rows_of, rule_of, subcommand_rows_of};
-ghost use Rattle.bayou_command.specs.Words.{AskFor, Names, a_connect, a_key, a_net, a_renewal, a_run, a_serve, an_audit, an_export, an_import, asked_by, audit_app, bayou_app, faults_of, file, folder_of, folder_rule, input_of, input_seen, main_app, net_app, run_app, standard, task_seen};
+ghost use Rattle.bayou_command.specs.Words.{AskFor, Names, a_connect, a_key, a_net, a_renewal, a_run, a_serve, an_audit, an_export, an_import, asked_beside, asked_by, audit_app, bayou_app, faults_of, file, folder_of, folder_rule, input_of, input_seen, main_app, net_app, run_app, standard, task_seen};
 ghost use Rattle.bayou_command.specs.Rows.{TakesNumbers, bare_export, connect_with, connect_words, export_words, import_with, import_words, key_words, plain_connection, plain_import, plain_renewal, plain_service, renew_with, renew_words, serve_with, serve_words};
 ghost use Rattle.bayou_command.specs.Inner.Stops.{StopsAt};
 
@@ -407,6 +407,22 @@ pub(crate) fn folder_in<'a>(found: &ArgMatches<'a>) -> &'a str
     found.get_str("DIR").unwrap_or("")
 }
 
+// What a command asks for that takes a store as a whole, or that is none of the others.
+fn task_beside<'a>(
+    alloc: Global,
+    name: &str,
+    found: &ArgMatches<'a>,
+) -> Result<Task<'a>, AllocError>
+    ensures { IfOk result (λ task. task_seen task ≡ asked_beside name.now (rows_of (found_of found.now))) }
+{
+    Ok(match name {
+        "renew" => Task::Renew(renewing_in(alloc, found)?),
+        "export" => Task::Export(exporting_in(alloc, found)?),
+        "import" => Task::Import(importing_in(alloc, found)?),
+        _ => Task::Run(source_in(found)),
+    })
+}
+
 /// What is asked for by the command that was entered.
 fn task_in<'a>(alloc: Global, matches: &ArgMatches<'a>) -> Result<Task<'a>, AllocError>
     ensures { IfOk result (λ task. task_seen task ≡ asked_by (subcommand_rows_of matches.now)) }
@@ -423,10 +439,7 @@ fn task_in<'a>(alloc: Global, matches: &ArgMatches<'a>) -> Result<Task<'a>, Allo
             name: text_in(found, "name"),
             file: text_in(found, "FILE"),
         },
-        Some(("renew", found)) => Task::Renew(renewing_in(alloc, found)?),
-        Some(("export", found)) => Task::Export(exporting_in(alloc, found)?),
-        Some(("import", found)) => Task::Import(importing_in(alloc, found)?),
-        Some((_, found)) => Task::Run(source_in(found)),
+        Some((name, found)) => task_beside(alloc, name, found)?,
         None => Task::Run(Source::Standard),
     })
 }
