@@ -8,7 +8,8 @@ mod progress;
 
 use bayou_connect::Input;
 use bayou_shell::{
-    Errand, Files, refuse_words, run_connected, run_key, run_main, run_net, run_renewed, run_served,
+    Errand, Files, refuse_words, run_connected, run_exported, run_imported, run_key, run_main,
+    run_net, run_renewed, run_served,
 };
 use bayou_streams::{CountedChannel, Output};
 use progress::{Counted, Screen, tell_progress};
@@ -135,6 +136,13 @@ fn run<
         }
         Errand::Key(wish) => run_key(rt, alloc, wish, &mut output, told),
         Errand::Renew(renewal) => run_renewed(rt, alloc, renewal, &mut output, told),
+        Errand::Export(extract) => run_exported(rt, alloc, extract, &mut output, told),
+        Errand::Import(intake) => {
+            // An import tells itself how far it is.
+            screen.lock(rt).end();
+            let is_terminal = told.is_terminal();
+            run_imported(rt, alloc, intake, is_terminal, &mut output, told)
+        }
         Errand::Connect(call) => {
             // So is a person.
             screen.lock(rt).end();

@@ -1,4 +1,6 @@
 pub mod Connect
+pub mod Export
+pub mod Import
 pub mod Inner
 pub mod Key
 pub mod Options

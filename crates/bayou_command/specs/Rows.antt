@@ -1,4 +1,4 @@
--- Words of `serve`, of `connect` and of `renew`, and what they ask for.
+-- Words of `serve`, of `connect`, of `renew`, of `export` and of `import`, and what they ask for.
 use Rattle.std.specs.Prelude.{◌≡◌, ℕ, false, true, List, [], ◌∷◌, None, codes, pos}
 use Rattle.std.specs.Str.Parse.{digits_value, without_leading_plus}
 use Rattle.clap.specs.ValueTests.{is_signed_in}
@@ -6,6 +6,8 @@ use Rattle.clap.specs.Words.{Text, without_minus}
 use Rattle.clap.specs.declared.error.kind.ErrorKind.TheVariants.{ValueValidation}
 use Rattle.bayou_command.specs.Serve.{Service}
 use Rattle.bayou_command.specs.Connect.{Connection}
+use Rattle.bayou_command.specs.Export.{Export}
+use Rattle.bayou_command.specs.Import.{Import}
 use Rattle.bayou_command.specs.Renew.{Renewal}
 use Rattle.bayou_command.specs.Words.{AskFor, Asked, faults_of, standard}
 
@@ -83,6 +85,42 @@ plain_renewal = record {
   at = codes "1,2,3";
   without = [];
   is_full = false;
+}
+
+-- the program and how rows are printed, before these words
+abbrev pub export_words : List Text → List Text
+export_words words = codes "bayou" ∷ codes "export" ∷ words
+
+-- what is asked for where the words say nothing
+abbrev pub bare_export : Export
+bare_export = record {
+  servers = [];
+  count = None;
+  key = None;
+  timeout_seconds = 3;
+  folder = None;
+  id = None;
+  prefix = None;
+}
+
+-- the program and how lines are put into a store, before these words
+abbrev pub import_words : List Text → List Text
+import_words words = codes "bayou" ∷ codes "import" ∷ words
+
+-- with the words that must be there, and these
+abbrev pub import_with : List Text → List Text
+import_with words = import_words (codes "f" ∷ codes "--server" ∷ codes "s" ∷ words)
+
+-- what those words ask for
+abbrev pub plain_import : Import
+plain_import = record {
+  servers = codes "s" ∷ [];
+  count = None;
+  key = None;
+  state = None;
+  wait_seconds = 0;
+  timeout_seconds = 3;
+  file = codes "f";
 }
 
 -- the number that a text is in decimal digits, behind a sign or none

@@ -150,7 +150,7 @@ pub(crate) fn connect_command<'a>(alloc: Global) -> Result<Command<'a>, AllocErr
 }
 
 /// How many servers the store has, where that is said.
-fn count_in(found: &ArgMatches) -> Option<u8>
+pub(crate) fn count_in(found: &ArgMatches) -> Option<u8>
     ensures value { result ≡ number_given (codes "servers") 1 SERVERS (rows_of (found_of found.now)) }
     ensures within { IfSome result (λ number. (0 < number) × (number ≤ SERVERS)) }
 {

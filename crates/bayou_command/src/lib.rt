@@ -8,12 +8,16 @@
 ghost use Rattle.std.specs.Prelude.{◌≡◌, ◌∷◌, ◌++◌, [], ℕ, IfOk, List, Some, codes, false, map, true};
 ghost use Rattle.clap.specs.declared.builder.command.Command.TheViews.{out-Command as fields_of};
 ghost use Rattle.clap.specs.Words.{app_of, found_of, kind_of, rows_of, rule_of, subcommand_rows_of};
-ghost use Rattle.bayou_command.specs.Words.{AskFor, Names, a_connect, a_key, a_net, a_renewal, a_run, a_serve, an_audit, asked_by, audit_app, bayou_app, faults_of, file, folder_of, folder_rule, input_of, input_seen, main_app, net_app, run_app, standard, task_seen};
-ghost use Rattle.bayou_command.specs.Rows.{TakesNumbers, connect_with, connect_words, key_words, plain_connection, plain_renewal, plain_service, renew_with, renew_words, serve_with, serve_words};
+ghost use Rattle.bayou_command.specs.Words.{AskFor, Names, a_connect, a_key, a_net, a_renewal, a_run, a_serve, an_audit, an_export, an_import, asked_beside, asked_by, audit_app, bayou_app, faults_of, file, folder_of, folder_rule, input_of, input_seen, main_app, net_app, run_app, standard, task_seen};
+ghost use Rattle.bayou_command.specs.Rows.{TakesNumbers, bare_export, connect_with, connect_words, export_words, import_with, import_words, key_words, plain_connection, plain_import, plain_renewal, plain_service, renew_with, renew_words, serve_with, serve_words};
 ghost use Rattle.bayou_command.specs.Inner.Stops.{StopsAt};
 
 mod connect;
 mod connecting;
+mod export;
+mod exporting;
+mod import;
+mod importing;
 mod key;
 mod options;
 mod renew;
@@ -26,6 +30,10 @@ use clap::error::ErrorKind;
 use clap::{Arg, ArgMatches, Command, Error};
 use connect::{connect_command, connecting_in};
 pub use connecting::Connecting;
+use export::{export_command, exporting_in};
+pub use exporting::Exporting;
+use import::{import_command, importing_in};
+pub use importing::Importing;
 use key::key_command;
 use options::text_in;
 use renew::{renew_command, renewing_in};
@@ -70,8 +78,9 @@ the verdict is clean.
 
 `bayou run --help` has each line of a script, `bayou net --help` how a script is run over sockets, with journals in files,
 `bayou audit --help` each line of an audit file, `bayou serve --help` how one server is kept at a socket for clients of any kind,
-`bayou connect --help` how a person writes and reads at such servers, `bayou key --help` how a store is kept from strangers, and
-`bayou renew --help` how a store goes on once its log is full.
+`bayou connect --help` how a person writes and reads at such servers, `bayou key --help` how a store is kept from strangers,
+`bayou renew --help` how a store goes on once its log is full, and `bayou export --help` and `bayou import --help` how what a store has
+is taken out of it and put into one.
 Exit status: 0 nothing is wrong; 1 a verdict is broken; 2 the input or the command line is refused, or a verdict is; 3 memory, a
 device, the network, the input or the output failed.
 docs/TROUBLE.md says what to do about each fault; examples/ has scripts and audit files to begin from."#;
@@ -236,8 +245,8 @@ Nothing is printed before the whole script was read and found good. What is wron
 Exit status: 0 the script was run; 1 a verdict (judge) was broken; 2 the script or the command line is refused, or a verdict or a
 survey was; 3 memory, a device as the script begins, the input or the output failed.
 
-Pages: docs/LANGUAGE.md (programs), docs/GUARANTEES.md (what a session may ask for), docs/FORMATS.md (lines in and out),
-docs/RECOVERY.md (fuse, reopen, restart, again), docs/ANTI-ENTROPY.md (pull, resend), docs/BOOK.md (totals, judge, survey, book),
+Pages: docs/LANGUAGE.md (programs), docs/GUARANTEES.md (what a session may ask for; pull, resend), docs/FORMATS.md (lines in and out),
+docs/RECOVERY.md (fuse, reopen, restart, again), docs/BOOK.md (totals, judge, survey, book),
 docs/TROUBLE.md (what to do about each fault), examples/README.md (scripts)."#;
 
 /// Where an input comes from.
@@ -266,6 +275,10 @@ pub enum Task<'a> {
     Key { name: &'a str, file: &'a str },
     /// To make the journal of a new store, of one that goes on no more.
     Renew(Renewing<'a>),
+    /// To print the rows of a server.
+    Export(Exporting<'a>),
+    /// To put lines into a store.
+    Import(Importing<'a>),
 }
 
 /// Why the words name no task.
@@ -369,6 +382,8 @@ fn bayou_command<'a>(alloc: Global) -> Result<Command<'a>, AllocError>
         .subcommand(connect_command(alloc)?)?
         .subcommand(key_command(alloc)?)?
         .subcommand(renew_command(alloc)?)?
+        .subcommand(export_command(alloc)?)?
+        .subcommand(import_command(alloc)?)?
         .subcommand(audit_command(alloc)?)
 }
 
@@ -392,6 +407,22 @@ pub(crate) fn folder_in<'a>(found: &ArgMatches<'a>) -> &'a str
     found.get_str("DIR").unwrap_or("")
 }
 
+// What a command asks for that takes a store as a whole, or that is none of the others.
+fn task_beside<'a>(
+    alloc: Global,
+    name: &str,
+    found: &ArgMatches<'a>,
+) -> Result<Task<'a>, AllocError>
+    ensures { IfOk result (λ task. task_seen task ≡ asked_beside name.now (rows_of (found_of found.now))) }
+{
+    Ok(match name {
+        "renew" => Task::Renew(renewing_in(alloc, found)?),
+        "export" => Task::Export(exporting_in(alloc, found)?),
+        "import" => Task::Import(importing_in(alloc, found)?),
+        _ => Task::Run(source_in(found)),
+    })
+}
+
 /// What is asked for by the command that was entered.
 fn task_in<'a>(alloc: Global, matches: &ArgMatches<'a>) -> Result<Task<'a>, AllocError>
     ensures { IfOk result (λ task. task_seen task ≡ asked_by (subcommand_rows_of matches.now)) }
@@ -408,8 +439,7 @@ fn task_in<'a>(alloc: Global, matches: &ArgMatches<'a>) -> Result<Task<'a>, Allo
             name: text_in(found, "name"),
             file: text_in(found, "FILE"),
         },
-        Some(("renew", found)) => Task::Renew(renewing_in(alloc, found)?),
-        Some((_, found)) => Task::Run(source_in(found)),
+        Some((name, found)) => task_beside(alloc, name, found)?,
         None => Task::Run(Source::Standard),
     })
 }
@@ -603,4 +633,48 @@ pub fn renewals_are_named()
     ensures at_twice { faults_of (renew_with (codes "--at" ∷ codes "1,2,3" ∷ [])) ≡ ErrorKind.ArgumentConflict ∷ [] }
     ensures no_option { faults_of (renew_with (codes "--walk" ∷ [])) ≡ ErrorKind.UnknownArgument ∷ [] }
     ensures word { faults_of (renew_with (codes "more" ∷ [])) ≡ ErrorKind.UnknownArgument ∷ [] }
+{}
+
+/// A law: `bayou export` asks for the rows of servers that are named, in the order of the words, or of a server's journal, of those keys that begin so.
+/// Words that ask for both, or for neither, are taken as they stand: what is told of them is another's matter. With a number out of its range, with one option
+/// twice, with a folder or a key of no name, with two prefixes or with a word that is no option it is refused. What stands behind `--server=` is taken as it
+/// stands.
+pub fn exports_are_named()
+    ensures bare { AskFor (export_words []) (an_export bare_export) }
+    ensures asked { AskFor (export_words (codes "--server" ∷ codes "s" ∷ [])) (an_export (record bare_export { servers = codes "s" ∷ [] })) }
+    ensures read { AskFor (export_words (codes "--dir" ∷ codes "d" ∷ codes "--id" ∷ codes "1" ∷ [])) (an_export (record bare_export { folder = Some (codes "d"); id = Some 1 })) }
+    ensures some_asked { AskFor (export_words (codes "p/" ∷ codes "--timeout" ∷ codes "9" ∷ codes "--key" ∷ codes "k" ∷ codes "--servers" ∷ codes "3" ∷ codes "--server" ∷ codes "s" ∷ []))
+        (an_export (record bare_export { servers = codes "s" ∷ []; count = Some 3; key = Some (codes "k"); timeout_seconds = 9; prefix = Some (codes "p/") })) }
+    ensures some_read { AskFor (export_words (codes "--id" ∷ codes "0" ∷ codes "--servers" ∷ codes "16" ∷ codes "--dir" ∷ codes "d" ∷ codes "p/" ∷ []))
+        (an_export (record bare_export { count = Some 16; folder = Some (codes "d"); id = Some 0; prefix = Some (codes "p/") })) }
+    ensures taken { (first second : List ℕ) → AskFor (export_words ((codes "--server=" ++ first) ∷ (codes "--server=" ++ second) ∷ [])) (an_export (record bare_export { servers = first ∷ second ∷ [] })) }
+    ensures id_above { faults_of (export_words (codes "--id" ∷ codes "16" ∷ [])) ≡ ErrorKind.ValueValidation ∷ [] }
+    ensures no_servers { faults_of (export_words (codes "--servers" ∷ codes "0" ∷ [])) ≡ ErrorKind.ValueValidation ∷ [] }
+    ensures servers_above { faults_of (export_words (codes "--servers" ∷ codes "17" ∷ [])) ≡ ErrorKind.ValueValidation ∷ [] }
+    ensures no_time { faults_of (export_words (codes "--timeout" ∷ codes "0" ∷ [])) ≡ ErrorKind.ValueValidation ∷ [] }
+    ensures nowhere { faults_of (export_words (codes "--dir" ∷ [] ∷ [])) ≡ ErrorKind.InvalidValue ∷ [] }
+    ensures no_key { faults_of (export_words (codes "--key" ∷ [] ∷ [])) ≡ ErrorKind.InvalidValue ∷ [] }
+    ensures dir_twice { faults_of (export_words (codes "--dir" ∷ codes "d" ∷ codes "--dir" ∷ codes "e" ∷ [])) ≡ ErrorKind.ArgumentConflict ∷ [] }
+    ensures two_prefixes { faults_of (export_words (codes "p" ∷ codes "q" ∷ [])) ≡ ErrorKind.UnknownArgument ∷ [] }
+    ensures no_option { faults_of (export_words (codes "--walk" ∷ [])) ≡ ErrorKind.UnknownArgument ∷ [] }
+{}
+
+/// A law: `bayou import` asks for the lines of the file that is named to be put at the servers that are, in the order of the words, and with each other
+/// option as it is given. Without a file or a server, with a number out of its range, with one option twice, with a state or a key of no name, with two files
+/// or with a word that is no option it is refused. What stands behind `--server=` and `--state=` is taken as it stands.
+pub fn imports_are_named()
+    ensures plain { AskFor (import_with []) (an_import plain_import) }
+    ensures turned { AskFor (import_words (codes "--server=s" ∷ codes "f" ∷ [])) (an_import plain_import) }
+    ensures whole { AskFor (import_with (codes "--timeout" ∷ codes "9" ∷ codes "--wait" ∷ codes "8" ∷ codes "--state" ∷ codes "t" ∷ codes "--key" ∷ codes "k" ∷ codes "--servers" ∷ codes "3" ∷ []))
+        (an_import (record plain_import { count = Some 3; key = Some (codes "k"); state = Some (codes "t"); wait_seconds = 8; timeout_seconds = 9 })) }
+    ensures taken { (first second : List ℕ) → AskFor (import_words (codes "f" ∷ (codes "--server=" ++ first) ∷ (codes "--server=" ++ second) ∷ [])) (an_import (record plain_import { servers = first ∷ second ∷ [] })) }
+    ensures bare { faults_of (import_words []) ≡ ErrorKind.MissingRequiredArgument ∷ [] }
+    ensures no_file { faults_of (import_words (codes "--server" ∷ codes "s" ∷ [])) ≡ ErrorKind.MissingRequiredArgument ∷ [] }
+    ensures no_server { faults_of (import_words (codes "f" ∷ [])) ≡ ErrorKind.MissingRequiredArgument ∷ [] }
+    ensures servers_above { faults_of (import_with (codes "--servers" ∷ codes "17" ∷ [])) ≡ ErrorKind.ValueValidation ∷ [] }
+    ensures no_time { faults_of (import_with (codes "--timeout" ∷ codes "0" ∷ [])) ≡ ErrorKind.ValueValidation ∷ [] }
+    ensures no_state { faults_of (import_with (codes "--state" ∷ [] ∷ [])) ≡ ErrorKind.InvalidValue ∷ [] }
+    ensures state_twice { faults_of (import_with (codes "--state" ∷ codes "t" ∷ codes "--state" ∷ codes "u" ∷ [])) ≡ ErrorKind.ArgumentConflict ∷ [] }
+    ensures two_files { faults_of (import_with (codes "g" ∷ [])) ≡ ErrorKind.UnknownArgument ∷ [] }
+    ensures no_option { faults_of (import_with (codes "--walk" ∷ [])) ≡ ErrorKind.UnknownArgument ∷ [] }
 {}

@@ -5,10 +5,12 @@ pub mod Claiming
 pub mod Claims
 pub mod Commands
 pub mod Desks
+pub mod Exporting
 pub mod Faults
 pub mod Filing
 pub mod Finals
 pub mod Found
+pub mod Importing
 pub mod Keeping
 pub mod Listing
 pub mod Operating

@@ -113,7 +113,10 @@ fn prompt<E: Write>(desk: &Desk, errors: &mut E) -> Result<(), ConnectFault> {
 }
 
 // Tells, as far as it can be told, who answered in place of a server, where that wasn't told yet.
-fn tell_strangers<E: Write>(desk: &mut Desk, errors: &mut E) -> Result<(), ConnectFault> {
+pub(crate) fn tell_strangers<E: Write>(
+    desk: &mut Desk,
+    errors: &mut E,
+) -> Result<(), ConnectFault> {
     for at in 0..desk.store.len() {
         let alloc = desk.alloc;
         if let Some((place, stranger)) = desk.store.news_at(at) {
@@ -200,7 +203,7 @@ fn ended_by(is_wrong: bool, is_served: bool) -> Ended
 }
 
 // How this program greets servers.
-fn greeter_of<T: RandomSource>(
+pub(crate) fn greeter_of<T: RandomSource>(
     rt: &T,
     alloc: Global,
     key: Option<StoreKey>,
@@ -221,7 +224,7 @@ fn greeter_of<T: RandomSource>(
 }
 
 // A run that nobody else has, as far as chance goes.
-fn drawn_run<T: RandomSource>(rt: &T) -> Result<u32, ConnectFault>
+pub(crate) fn drawn_run<T: RandomSource>(rt: &T) -> Result<u32, ConnectFault>
     ensures { IfOk result (λ run. 0 < run) }
 {
     let mut bytes = [0; 4];
@@ -233,7 +236,10 @@ fn drawn_run<T: RandomSource>(rt: &T) -> Result<u32, ConnectFault>
 
 // The number that session 0 has in tags and in a book: its own where it is kept, else one that is drawn, so that it is less likely that another program
 // has it in the same run.
-fn first_number<T: RandomSource>(rt: &T, is_kept: bool) -> Result<SessionId, ConnectFault>
+pub(crate) fn first_number<T: RandomSource>(
+    rt: &T,
+    is_kept: bool,
+) -> Result<SessionId, ConnectFault>
     ensures { is_kept ≡ true → IfOk result (λ first. first.index ≡ 0) }
 {
     if is_kept {
@@ -250,10 +256,10 @@ fn first_number<T: RandomSource>(rt: &T, is_kept: bool) -> Result<SessionId, Con
 
 // What is kept of each session, by its number, and the file that keeps it, if one does.
 #[derive(Drop)]
-struct Found {
-    state: Option<StateFile>,
-    views: Option<ViewsFile>,
-    sessions: Vec<Option<Asker>>,
+pub(crate) struct Found {
+    pub(crate) state: Option<StateFile>,
+    pub(crate) views: Option<ViewsFile>,
+    pub(crate) sessions: Vec<Option<Asker>>,
     ghost one_each: { vec_len sessions ≡ NUMBER },
 }
 
@@ -273,7 +279,7 @@ fn tell_entry<E: Write>(
 
 // What the file of this name keeps of sessions, at the store of this key or at an open one; nothing, where there is no name. What is kept of another store
 // isn't touched. A last entry that was dropped is told.
-fn found_in<E: Write, T: Files<File = File>>(
+pub(crate) fn found_in<E: Write, T: Files<File = File>>(
     rt: &T,
     alloc: Global,
     name: Option<&str>,
@@ -362,7 +368,7 @@ fn tell_other_asks<E: Write>(
 }
 
 // A desk for the plan, at which session 0 has this number in tags and in the book, and the session is open and asks for this.
-fn desk_of(
+pub(crate) fn desk_of(
     alloc: Global,
     plan: &Plan,
     store: Store,

@@ -33,11 +33,11 @@ const MAX_PAGES: usize = MAX_WRITES as usize * MAX_OPS / ROWS_AT_ONCE + 1;
 /// What was told of rows.
 #[derive(Drop)]
 pub(crate) struct Rows {
-    each: Vec<(Key, Value)>,
+    pub(crate) each: Vec<(Key, Value)>,
     /// What the server held that told the last of them.
-    vector: Vector,
+    pub(crate) vector: Vector,
     /// Whether some of them were told by what held less.
-    is_mixed: bool,
+    pub(crate) is_mixed: bool,
 }
 
 /// How a list goes on.
@@ -201,7 +201,7 @@ impl Desk {
 
     // The rows whose keys begin so, of one database, unless it is another again and again: then of several, each of which had what the session asks for;
     // or why they weren't told.
-    fn rows_of<T: Files<File = File> + Sockets + Wait + Clock>(
+    pub(crate) fn rows_of<T: Files<File = File> + Sockets + Wait + Clock>(
         &mut self,
         rt: &T,
         who: SessionId,

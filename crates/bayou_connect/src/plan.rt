@@ -72,7 +72,7 @@ const ALL: Asks = Asks {
     mw: true,
 };
 
-const NONE: Asks = Asks {
+pub(crate) const NONE: Asks = Asks {
     ryw: false,
     mr: false,
     wfr: false,

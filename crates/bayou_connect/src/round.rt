@@ -13,7 +13,7 @@ use std::thread;
 use std::time::{Clock, Duration};
 
 /// How often it goes round in a second.
-pub(crate) const ROUNDS_PER_SECOND: u64 = 1_000 / ROUND_MILLISECONDS;
+pub const ROUNDS_PER_SECOND: u64 = 1_000 / ROUND_MILLISECONDS;
 
 /// Servers that may be asked the same, which is a `Q`.
 pub trait Ways<Q> {

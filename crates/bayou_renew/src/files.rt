@@ -54,8 +54,11 @@ fn look_for_old<T: Files<File = File>>(rt: &T, path: &str) -> Result<(), Reading
     }
 }
 
-// The journal of this name, to be read alone, and locked as long as it is open. Nothing is made where there is none.
-fn open_old<T: Files<File = File>>(rt: &T, path: &str) -> Result<FileDevice<File>, ReadingFault> {
+/// The journal of this name, to be read alone, and locked as long as it is open. Nothing is made where there is none. What a file has no clause can say.
+pub fn open_old<T: Files<File = File>>(
+    rt: &T,
+    path: &str,
+) -> Result<FileDevice<File>, ReadingFault> {
     look_for_old(rt, path)?;
     let Ok(file) = File::open(rt, path) else {
         return Err(ReadingFault::NotOpened);

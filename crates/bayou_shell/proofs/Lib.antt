@@ -6,3 +6,4 @@ pub mod Planned
 pub mod Read
 pub mod Runs
 pub mod Tasks
+pub mod Wanted

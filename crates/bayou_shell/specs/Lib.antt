@@ -1,4 +1,6 @@
 pub mod Audit
+pub mod Exports
+pub mod Imports
 pub mod Inner
 pub mod Net
 pub mod Plans

@@ -49,8 +49,8 @@ const REFUSED: u8 = 2;
 /// The exit status of every other fault.
 const FAILED: u8 = 3;
 
-// The name, kept.
-fn kept_name(alloc: Global, name: Option<&str>) -> Result<Option<String>, AllocError>
+/// The name, kept.
+pub(crate) fn kept_name(alloc: Global, name: Option<&str>) -> Result<Option<String>, AllocError>
     ensures { IfOk result (λ kept. option_map (λ name. string_bytes name) kept ≡ option_map (λ name. name.now) name.entry) }
 {
     match name {
@@ -69,8 +69,10 @@ fn name_of<'a>(input: Source<'a>) -> Option<&'a str>
     }
 }
 
-// The plan, or why there is none; but want of memory is told at once.
-fn kept_plan(plan: Result<Plan, PlanFault>) -> Result<Result<Plan, PlanFault>, AllocError>
+/// The plan, or why there is none; but want of memory is told at once.
+pub(crate) fn kept_plan(
+    plan: Result<Plan, PlanFault>,
+) -> Result<Result<Plan, PlanFault>, AllocError>
     ensures same { IfOk result (λ kept. kept ≡ plan) }
     ensures known { IfOk result (λ kept. IfErr kept (λ fault. fault ≢ OutOfMemory)) }
 {

@@ -1,5 +1,7 @@
 //! What the words leave to be done.
 use crate::connected::Call;
+use crate::exported::Extract;
+use crate::imported::Intake;
 use crate::keyed::NewKey;
 use crate::renewed::Renewal;
 use crate::served::Service;
@@ -23,4 +25,8 @@ pub enum Errand {
     Key(NewKey),
     /// To make the journal of a new store.
     Renew(Renewal),
+    /// To print the rows of a server.
+    Export(Extract),
+    /// To put lines into a store.
+    Import(Intake),
 }

@@ -4,7 +4,7 @@
 //! the writer holds before and after: `RunsAs` of a run, `AuditsAs` of an audit. The whole input is read, and checked by
 //! `bayou_script` as it comes, before anything runs. Where it is refused, nothing is printed, and the least line with a fault is
 //! told; where a fault comes later, a front of what is to be printed is printed. What a run prints are the lines of its answers
-//! (`bayou_machine`). A run over sockets, a server that is to live, a person's session, a key and a renewal are left to be
+//! (`bayou_machine`). A run over sockets, a server that is to live, a person's session, a key, a renewal, an export and an import are left to be
 //! done ([`Errand`]), as the words and the script say. Which lines a run over sockets prints then, no clause says: they are put behind what the writer
 //! holds, and nothing else is done there.
 //!
@@ -20,7 +20,9 @@
 pub mod audit;
 pub mod connected;
 pub mod errand;
+pub mod exported;
 pub mod files;
+pub mod imported;
 pub mod keyed;
 mod logging;
 pub mod net;
@@ -34,7 +36,9 @@ mod telling;
 pub use audit::run_audit;
 pub use connected::{Call, run_connected};
 pub use errand::Errand;
+pub use exported::{Extract, run_exported};
 pub use files::Files;
+pub use imported::{Intake, run_imported};
 pub use keyed::{NewKey, run_key};
 pub use net::run_net;
 pub use program::{refuse_words, run_main};

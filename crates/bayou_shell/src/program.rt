@@ -15,7 +15,9 @@ ghost use Rattle.bayou_streams.specs.Account.{Pays, account};
 use crate::audit::run_audit;
 use crate::connected::Call;
 use crate::errand::Errand;
+use crate::exported::Extract;
 use crate::files::Files;
+use crate::imported::Intake;
 use crate::keyed::NewKey;
 use crate::net::read_net;
 use crate::renewed::Renewal;
@@ -60,15 +62,16 @@ pub fn refuse_words<E: Write>(errors: &mut Output<E>, error: &io::Error) -> u8
     REFUSED
 }
 
-/// Where the input of a task comes from. A server that is to live, a key and a renewal have none, and lines for servers are read only as they are done: for these it
-/// is the standard input, which isn't read.
+/// Where the input of a task comes from. A server that is to live, a key, a renewal and an export have none, and lines for servers and of an import are
+/// read only as they are done: for these it is the standard input, which isn't read.
 fn source_of<'a>(task: &Task<'a>) -> Source<'a>
     ensures { input_seen result ≡ input_of_asked (task_seen task.now) }
 {
     match task {
         Task::Run(source) | Task::Audit(source) => *source,
         Task::Net { script, .. } => *script,
-        Task::Serve(_) | Task::Connect(_) | Task::Key { .. } | Task::Renew(_) => Source::Standard,
+        Task::Serve(_) | Task::Connect(_) | Task::Key { .. } => Source::Standard,
+        Task::Renew(_) | Task::Export(_) | Task::Import(_) => Source::Standard,
     }
 }
 
@@ -103,6 +106,8 @@ fn work<R: Read, W: Write>(
         Task::Connect(connecting) => Ok(Errand::Connect(Call::of(alloc, &connecting)?)),
         Task::Key { name, file } => Ok(Errand::Key(NewKey::of(alloc, name, file)?)),
         Task::Renew(renewing) => Ok(Errand::Renew(Renewal::of(alloc, &renewing)?)),
+        Task::Export(exporting) => Ok(Errand::Export(Extract::of(alloc, &exporting)?)),
+        Task::Import(importing) => Ok(Errand::Import(Intake::of(alloc, &importing)?)),
     }
 }
 

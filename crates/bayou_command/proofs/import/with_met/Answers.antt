@@ -1,0 +1,26 @@
+use Rattle.std.proofs.Common.{◌≡◌, ◌∙◌, Some, ap, ap₂, false}
+use Rattle.std.proofs.lemmas.Result.{IfOk-weaker}
+use Rattle.clap.specs.Words.{Rule, app_of, rule_of, with_rule}
+use Rattle.clap.specs.declared.builder.arg.Arg.{Arg}
+use Rattle.clap.specs.declared.builder.action.ArgAction.TheVariants.{Append}
+use Rattle.bayou_command.specs.Options.{needed}
+use Rattle.bayou_command.proofs.Given.{stays_local}
+use Rattle.bayou_command.proofs.import.with_met.Goals as goal
+
+pub returns-clause-app : goal.returns-clause-app
+returns-clause-app c =
+    let is_global = λ (arg : Arg). arg.global in
+    let appended = ap rule_of c.action.ensures ∙ ap (λ (rule : Rule). record rule { action = Some Append }) c.value_option-server.ensures.rule in
+    let server = ap rule_of c.required.ensures ∙ ap needed appended in
+    let free = ap is_global c.required.ensures ∙ ap is_global c.action.ensures ∙ c.value_option-server.ensures.local in
+    let first = c.in_ok-arg.ensures.shape free ∙ ap (with_rule (app_of c.args.command)) server in
+    let second = c.in_ok-arg-2.ensures.shape c.number_option-count.ensures.local ∙ ap₂ with_rule first c.number_option-count.ensures.rule in
+    IfOk-weaker c.arg-3.result _ _ (λ made h. h.shape c.file_option.ensures.local ∙ ap₂ with_rule second c.file_option.ensures.rule) c.arg-3.ensures
+
+pub returns-clause-local : goal.returns-clause-local
+returns-clause-local c =
+    let is_global = λ (arg : Arg). arg.global in
+    let free : c.required.result.global ≡ false = ap is_global c.required.ensures ∙ ap is_global c.action.ensures ∙ c.value_option-server.ensures.local in
+    let first = c.in_ok-arg.ensures.globals ∙ stays_local _ _ free in
+    let second = c.in_ok-arg-2.ensures.globals ∙ stays_local _ _ c.number_option-count.ensures.local ∙ first in
+    IfOk-weaker c.arg-3.result _ _ (λ made h. h.globals ∙ stays_local _ _ c.file_option.ensures.local ∙ second) c.arg-3.ensures

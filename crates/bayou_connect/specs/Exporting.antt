@@ -1,0 +1,20 @@
+-- The rows of one server's database: this project's own.
+use Rattle.std.specs.Prelude.{◌≡◌}
+use Rattle.bayou_base.specs.declared.server.ServerId.{ServerId}
+use Rattle.bayou_connect.specs.declared.exporting.NotTaken.{NotTaken}
+use Rattle.bayou_connect.specs.declared.exporting.NotTaken.TheVariants as untaken
+use Rattle.bayou_connect.specs.declared.exporting.Taken.{Taken}
+use Rattle.bayou_connect.specs.declared.listing.Rows.{Rows}
+use Rattle.bayou_connect.specs.declared.told.Told.{Told}
+use Rattle.bayou_connect.specs.declared.told.Told.TheVariants.{Away}
+
+-- Why no rows are taken of which this was told: no server was reached, or some was and told them not, or not all of them.
+abbrev pub untaken_as : Told → NotTaken
+untaken_as Away = untaken.Away
+untaken_as _ = untaken.Untold
+
+-- what this server told is what is taken
+pub record IsTakenOf (server : ServerId) (rows : Rows) (taken : Taken) : Type 0 where
+  pub from : taken.server ≡ server
+  pub vector : taken.vector ≡ rows.vector
+  pub each : taken.rows ≡ rows.each

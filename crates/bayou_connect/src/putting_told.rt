@@ -1,0 +1,75 @@
+//! How far rows are put, as it is told at a terminal.
+ghost use Rattle.std.specs.Prelude.{◌≡◌, ◌∷◌, ◌++◌, IfOk, codes, decimal, string_bytes};
+
+use crate::deadline::milliseconds;
+use crate::fault::ConnectFault;
+use std::alloc::{AllocError, Global};
+use std::io::Write;
+use std::time::Clock;
+
+/// How long one telling stands.
+const PERIOD_MILLISECONDS: u64 = 1_000;
+
+/// What clears the line of a terminal.
+const CLEAR: &str = "\r\x1b[K";
+
+/// What is told of how far rows are put.
+#[derive(Debug, Drop)]
+pub(crate) struct Progress {
+    is_terminal: bool,
+    /// How many rows there are.
+    of: usize,
+    /// From when on it is told again.
+    next: u64,
+    /// Whether a line of it stands there.
+    is_shown: bool,
+}
+
+// The line that is shown.
+fn progress_line(alloc: Global, done: usize, of: usize) -> Result<String, AllocError>
+    ensures { IfOk result (λ line. string_bytes line ≡ 13 ∷ codes "bayou: " ++ (decimal done ++ (codes " of " ++ (decimal of ++ codes " keys")))) }
+{
+    format!(in alloc; "\rbayou: {done} of {of} keys")
+}
+
+impl Progress {
+    /// Nothing is told yet.
+    pub(crate) fn new<T: Clock>(rt: &T, is_terminal: bool, of: usize) -> Self
+        ensures { (result.is_terminal ≡ is_terminal) × (result.of ≡ of) }
+    {
+        Progress {
+            is_terminal,
+            of,
+            next: milliseconds(rt).saturating_add(PERIOD_MILLISECONDS),
+            is_shown: false,
+        }
+    }
+
+    /// Tells at a terminal, as far as it can be told, how many rows are put, unless it told that within the last second.
+    pub(crate) fn tell<T: Clock, E: Write>(
+        &mut self,
+        rt: &T,
+        alloc: Global,
+        errors: &mut E,
+        done: usize,
+    ) -> Result<(), ConnectFault> {
+        let now = milliseconds(rt);
+        if !self.is_terminal || now < self.next {
+            return Ok(());
+        }
+        self.next = now.saturating_add(PERIOD_MILLISECONDS);
+        self.is_shown = true;
+        let line = progress_line(alloc, done, self.of)?;
+        let _ = errors.write_all(line.as_bytes());
+        let _ = errors.flush();
+        Ok(())
+    }
+
+    /// Clears what is told, so that what comes next stands on a line of its own.
+    pub(crate) fn clear<E: Write>(&mut self, errors: &mut E) {
+        if self.is_shown {
+            self.is_shown = false;
+            let _ = errors.write_all(CLEAR.as_bytes());
+        }
+    }
+}

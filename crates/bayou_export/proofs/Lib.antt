@@ -1,0 +1,4 @@
+mod Exported
+mod Kept
+mod Plain
+mod Written

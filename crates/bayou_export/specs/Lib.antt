@@ -1,0 +1,3 @@
+pub mod Exports
+pub mod Laws
+pub mod Words
