@@ -48,14 +48,18 @@ const CONNECT_FORM: &str =
     r#"Each line is done as it comes, at a terminal and from a pipe, and its answer is printed before the next line is read. One session asks, the
 session 0: what it wrote and read, it takes from one server to the next, so that a server that is behind refuses rather than forgets.
 
-A calendar, at two of three servers (bayou serve --help starts them). The lines that are typed stand behind >, what is printed without it:
+A calendar, at two servers (bayou serve --help starts them). The lines that are typed stand behind >, what is printed without it:
 
-      bayou connect --server 0=127.0.0.1:7000 --server 1=127.0.0.1:7001 --servers 3 --session ryw,mr --state kim.session
-      > claim mon/9 mon/10 mon/11 kim
-      0 wrote 0:1 clock 1 deps 0,0,0
-      0 read mon/9 text "kim" at 1,0,0
-      > get mon/9
-      0 read mon/9 text "kim" at 1,0,0
+      bayou connect --server 0=127.0.0.1:7000 --server 1=127.0.0.1:7001 --session ryw,mr --state kim.session
+      > claim mon/09 mon/10 mon/11 kim
+      0 wrote 0:1 clock 1 deps 0,0
+      0 became 0:1 update
+      0 read mon/09 text "kim" at 1,0
+      > get mon/09
+      0 read mon/09 text "kim" at 1,0
+      0 tentative mon/09
+      > wait
+      0 final 0:1 update
 
 Lines. K is a key, of 1 to 32 bytes of a-z 0-9 . _ - /; N an integer of 64 bits; V such an integer, or a text of up to 32 bytes. A text with
 spaces, or one that looks like a number, as "red room" and "007", stands in double quotes as JSON has it, to the end of the line.
@@ -65,10 +69,14 @@ spaces, or one that looks like a number, as "red room" and "007", stands in doub
   del K                 K has no value from then on
   claim K1 [K2..] V     sets the first of these keys that has no value to V, and no other; up to four behind K1. Before it each
                         key is read: where one has V already, nothing is written. Behind it each is read, up to the first that has V
-  get K                 reads K
+  get K1 [K2..]         reads these keys; up to four behind K1
   again                 asks the last Write once more, where its reply was lost or it was refused
   at I                  server I is the first to be asked from here on
-  list                  each key that has a value at the first server that holds what the session needs, and that value
+  list [P]              each key that has a value, or each that begins with P, and that value, in order, at the first server that
+                        holds what the session needs
+  became I:N            what became of Write N of server I: its update, an alternative, or nothing was applied
+  mine                  how your own Writes stand that weren't final: tentative, changed or final
+  wait [SECONDS]        waits until they are final, which no earlier Write can change any more; name all servers for that
   servers               each server, and what it holds, or that it is away
   session               what the session asks for, and what it read and wrote
   dump                  puts what each server holds into the book (--book), once, at the end
@@ -88,7 +96,9 @@ whose reply was lost goes to no other server, since it may have been done: `I lo
 second one of it.
 
 Answers are those of bayou net. `I wrote ..` says that the Write is held, not that it did what it was meant to: another Write may still come
-before it. So later ask again who has the key. New are
+before it, until it is final. New are
+  I became J:N WORD     what became of that Write so far: update, merge M (from 1 on), none, or unknown
+  I tentative ..        the Write, or the value of the key, may change yet; changed: it did; final: no more (with --state, at several servers)
   I refused away        no server could be reached: nothing was sent
   I did nothing         each key of the claim has another value, or the key of the add has a text
   server I at V         server I holds so many Writes of each server; `server I away` where it can't be reached
@@ -108,7 +118,7 @@ else they end there. Exit status: 0 each operation was served; 1 some weren't, o
 output, memory or the state (its file can't be had, is in use, or has something else) failed.
 
 Pages: docs/CONNECT.md (a calendar's day, and what a session keeps), docs/SERVE.md (servers that live), docs/GUARANTEES.md (what a session may
-ask for), docs/FORMATS.md (lines in and out), docs/TROUBLE.md (what to do about each fault)."#;
+ask for), docs/FINAL.md (what is final), docs/FORMATS.md (lines in and out), docs/TROUBLE.md (what to do about each fault)."#;
 
 // The command with the options that say which store it is, and what the session asks for.
 fn with_store<'a>(alloc: Global, command: Command<'a>) -> Result<Command<'a>, AllocError>
