@@ -69,16 +69,25 @@ asked_beside name rows =
     else if bytes_eq name (codes "import") then an_import (import_of rows)
     else a_run (input_of rows)
 
--- of the program's nine commands, the one that was entered
-abbrev pub asked_by : Option (Text × List Row) → Asked
-asked_by None = a_run standard
-asked_by (Some (name, rows)) =
+-- of a person's commands, or of those, the one that was entered
+abbrev pub asked_of_person : Text → List Row → Asked
+asked_of_person name rows =
+    if bytes_eq name (codes "connect") then a_connect (connection_of rows)
+    else if bytes_eq name (codes "key") then a_key (text_of (codes "name") rows) (text_of file_name rows)
+    else asked_beside name rows
+
+-- and of all commands
+abbrev pub asked_named : Text → List Row → Asked
+asked_named name rows =
     if bytes_eq name (codes "audit") then an_audit (input_of rows)
     else if bytes_eq name (codes "net") then a_net (folder_of rows) (input_of rows)
     else if bytes_eq name (codes "serve") then a_serve (service_of rows)
-    else if bytes_eq name (codes "connect") then a_connect (connection_of rows)
-    else if bytes_eq name (codes "key") then a_key (text_of (codes "name") rows) (text_of file_name rows)
-    else asked_beside name rows
+    else asked_of_person name rows
+
+-- of the program's nine commands, the one that was entered
+abbrev pub asked_by : Option (Text × List Row) → Asked
+asked_by None = a_run standard
+asked_by (Some (name, rows)) = asked_named name rows
 
 -- the words are no mistake, and ask for this
 pub record AskFor (words : List Text) (asked : Asked) : Type 0 where

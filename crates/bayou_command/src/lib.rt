@@ -8,7 +8,7 @@
 ghost use Rattle.std.specs.Prelude.{◌≡◌, ◌∷◌, ◌++◌, [], ℕ, IfOk, List, Some, codes, false, map, true};
 ghost use Rattle.clap.specs.declared.builder.command.Command.TheViews.{out-Command as fields_of};
 ghost use Rattle.clap.specs.Words.{app_of, found_of, kind_of, rows_of, rule_of, subcommand_rows_of};
-ghost use Rattle.bayou_command.specs.Words.{AskFor, Names, a_connect, a_key, a_net, a_renewal, a_run, a_serve, an_audit, an_export, an_import, asked_beside, asked_by, audit_app, bayou_app, faults_of, file, folder_of, folder_rule, input_of, input_seen, main_app, net_app, run_app, standard, task_seen};
+ghost use Rattle.bayou_command.specs.Words.{AskFor, Names, a_connect, a_key, a_net, a_renewal, a_run, a_serve, an_audit, an_export, an_import, asked_beside, asked_by, asked_named, asked_of_person, audit_app, bayou_app, faults_of, file, folder_of, folder_rule, input_of, input_seen, main_app, net_app, run_app, standard, task_seen};
 ghost use Rattle.bayou_command.specs.Rows.{TakesNumbers, bare_export, connect_with, connect_words, export_words, import_with, import_words, key_words, plain_connection, plain_import, plain_renewal, plain_service, renew_with, renew_words, serve_with, serve_words};
 ghost use Rattle.bayou_command.specs.Inner.Stops.{StopsAt};
 
@@ -423,25 +423,47 @@ fn task_beside<'a>(
     })
 }
 
+// What a person's command asks for, or one of those beside.
+fn task_of_person<'a>(
+    alloc: Global,
+    name: &str,
+    found: &ArgMatches<'a>,
+) -> Result<Task<'a>, AllocError>
+    ensures { IfOk result (λ task. task_seen task ≡ asked_of_person name.now (rows_of (found_of found.now))) }
+{
+    Ok(match name {
+        "connect" => Task::Connect(connecting_in(alloc, found)?),
+        "key" => Task::Key {
+            name: text_in(found, "name"),
+            file: text_in(found, "FILE"),
+        },
+        _ => task_beside(alloc, name, found)?,
+    })
+}
+
+// What the command of this name asks for.
+fn task_named<'a>(alloc: Global, name: &str, found: &ArgMatches<'a>) -> Result<Task<'a>, AllocError>
+    ensures { IfOk result (λ task. task_seen task ≡ asked_named name.now (rows_of (found_of found.now))) }
+{
+    Ok(match name {
+        "audit" => Task::Audit(source_in(found)),
+        "net" => Task::Net {
+            folder: folder_in(found),
+            script: source_in(found),
+        },
+        "serve" => Task::Serve(serving_in(alloc, found)?),
+        _ => task_of_person(alloc, name, found)?,
+    })
+}
+
 /// What is asked for by the command that was entered.
 fn task_in<'a>(alloc: Global, matches: &ArgMatches<'a>) -> Result<Task<'a>, AllocError>
     ensures { IfOk result (λ task. task_seen task ≡ asked_by (subcommand_rows_of matches.now)) }
 {
-    Ok(match matches.subcommand() {
-        Some(("audit", found)) => Task::Audit(source_in(found)),
-        Some(("net", found)) => Task::Net {
-            folder: folder_in(found),
-            script: source_in(found),
-        },
-        Some(("serve", found)) => Task::Serve(serving_in(alloc, found)?),
-        Some(("connect", found)) => Task::Connect(connecting_in(alloc, found)?),
-        Some(("key", found)) => Task::Key {
-            name: text_in(found, "name"),
-            file: text_in(found, "FILE"),
-        },
-        Some((name, found)) => task_beside(alloc, name, found)?,
-        None => Task::Run(Source::Standard),
-    })
+    match matches.subcommand() {
+        Some((name, found)) => task_named(alloc, name, found),
+        None => Ok(Task::Run(Source::Standard)),
+    }
 }
 
 /// What the words name. The first of them is the program's own name.

@@ -104,7 +104,7 @@ struct Stop {
 }
 
 // What is wrong with this file ends the call, or with none.
-fn stop(alloc: Global, file: Option<&str>, cause: &str, status: u8) -> Stop
+fn stop_for(alloc: Global, file: Option<&str>, cause: &str, status: u8) -> Stop
     ensures { result.status ≡ status }
 {
     Stop {
@@ -129,7 +129,7 @@ fn stopped_by(alloc: Global, why: NotPut) -> Stop
             };
         }
     };
-    stop(alloc, None, cause, UNPUT)
+    stop_for(alloc, None, cause, UNPUT)
 }
 
 // The bytes of the file of this name.
@@ -137,15 +137,15 @@ fn text_of<T: fs::Files<File = File>>(rt: &T, alloc: Global, path: &str) -> Resu
     ensures { IfErr result (λ stop. (stop.status ≡ REFUSED) ⊎ (stop.status ≡ FAILED)) }
 {
     let Ok(mut file) = File::open(rt, path) else {
-        return Err(stop(alloc, Some(path), "it can't be opened and read", FAILED));
+        return Err(stop_for(alloc, Some(path), "it can't be opened and read", FAILED));
     };
     let mut bytes = Vec::new(alloc);
     if file.read_to_end(&mut bytes).is_err() {
-        return Err(stop(alloc, Some(path), "it can't be opened and read", FAILED));
+        return Err(stop_for(alloc, Some(path), "it can't be opened and read", FAILED));
     }
     match String::from_utf8(bytes) {
         Ok(text) => Ok(text),
-        Err(_) => Err(stop(alloc, Some(path), "it is no text", REFUSED)),
+        Err(_) => Err(stop_for(alloc, Some(path), "it is no text", REFUSED)),
     }
 }
 
@@ -155,7 +155,7 @@ fn rows_of(alloc: Global, path: &str, text: &str) -> Result<Vec<(Key, Value)>, S
 {
     match read_export(alloc, text) {
         Ok(rows) => Ok(rows),
-        Err(ReadFault::OutOfMemory) => Err(stop(alloc, None, "memory", FAILED)),
+        Err(ReadFault::OutOfMemory) => Err(stop_for(alloc, None, "memory", FAILED)),
         Err(fault) => Err(Stop {
             line: format!(in alloc; "bayou: {path}: {fault}; nothing was sent\n"),
             status: REFUSED,
@@ -186,13 +186,13 @@ fn run_of<T: fs::Files<File = File> + RandomSource>(
     ensures status { IfErr result (λ stop. stop.status ≡ FAILED) }
 {
     let Ok(mark) = mark_of(alloc, text.as_bytes(), place.id) else {
-        return Err(stop(alloc, None, "memory", FAILED));
+        return Err(stop_for(alloc, None, "memory", FAILED));
     };
     let Some(drawn) = drawn_run(rt) else {
-        return Err(stop(alloc, None, "no random number", FAILED));
+        return Err(stop_for(alloc, None, "no random number", FAILED));
     };
     let Ok(mut device) = FileDevice::open(rt, state) else {
-        return Err(stop(
+        return Err(stop_for(
             alloc,
             Some(state),
             "it can't be opened, or another process has it",
