@@ -52,6 +52,5 @@ pub record IsExtractOf (asked : Asking) (extract : Extract) : Type 0 where
   pub count : extract.count ≡ asked.count
 
 -- the lines of these rows are printed, and of what they are, with some of the counts
-pub record PrintsExport (export : Export) (old new : Account) : Type 0 where
-  pub told : ℕ
-  pub takes : TakesBytes old new (export_text told export)
+abbrev pub PrintsExport : Export → (old new : Account) → Type 0
+PrintsExport export old new = (told : ℕ) × TakesBytes old new (export_text told export)

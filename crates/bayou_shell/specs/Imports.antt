@@ -43,8 +43,5 @@ abbrev pub imported_text : (keys writes : ℕ) → List ℕ
 imported_text keys writes = codes "imported " ++ (decimal keys ++ (codes " keys in " ++ (decimal writes ++ codes " writes\n")))
 
 -- that line is printed, of keys and of as many Writes as they take
-pub record PrintsImport (old new : Account) : Type 0 where
-  pub keys : ℕ
-  pub writes : ℕ
-  pub few : TakesWrites keys writes
-  pub takes : TakesBytes old new (imported_text keys writes)
+abbrev pub PrintsImport : (old new : Account) → Type 0
+PrintsImport old new = (keys : ℕ) × (writes : ℕ) × TakesWrites keys writes × TakesBytes old new (imported_text keys writes)
