@@ -14,6 +14,7 @@ import frames
 from checks import Checks
 from living import SECONDS, Server
 from meeting import free_port, soon
+from net_meddled import library
 
 sys.path.insert(0, os.path.join("..", "clients", "python"))
 import bayou  # noqa: E402
@@ -22,6 +23,8 @@ import bayou  # noqa: E402
 CALL_SECONDS = 120
 # How many puts a Write has at the most, and how many Writes a store.
 MOST_OPS, MOST_WRITES = 8, 65536
+# How many calls of files one call makes at the most.
+MOST_CALLS = 1000
 # How many Writes each of three servers makes in a year, apart from the others.
 YEAR = 20000
 LINE = re.compile(r"renewed ([0-9]+) at ([0-9,]+) keys ([0-9]+) writes ([0-9]+) digest ([0-9a-f]{16})\n")
@@ -127,6 +130,13 @@ class Tries:
         before = tree(old), tree(new)
         self.that(name, self.renew(old, new, at, **more), (status, "", told))
         self.that("%s: nothing is made or changed" % name, (tree(old), tree(new)), before)
+
+    def exported(self, folder, index, servers=3):
+        """The lines of the rows that an export of a journal prints."""
+        call = [self.program, "export", "--dir", folder, "--id", str(index), "--servers", str(servers)]
+        done = subprocess.run(call, stdin=subprocess.DEVNULL, capture_output=True, timeout=CALL_SECONDS)
+        self.that("an export of a journal", (done.returncode, done.stderr), (0, b""))
+        return done.stdout.decode().splitlines()[1:]
 
     # What servers tell.
 
@@ -436,6 +446,28 @@ class Tries:
                 self.that("and leaves nothing else", os.listdir(new), ["server-0.journal"])
         print("renew: %d killed, %d of them with a .part" % (killed, parts))
 
+    def kill_at_calls(self):
+        """A call is killed at each of its calls of files, one after another, until it makes fewer."""
+        old, at = self.made(grouped([("k/%02d" % number, number) for number in range(40)])), "5,0,0"
+        before, told, stopped = tree(old), self.renewed("it is renewed", old, self.folder(), at), library(self.room, "kill")
+        left = set()
+        for number in range(1, MOST_CALLS):
+            new = self.folder()
+            done = subprocess.run(self.call(old, new, at), stdin=subprocess.DEVNULL, capture_output=True, timeout=CALL_SECONDS,
+                                  env=dict(os.environ, LD_PRELOAD=stopped, KILL=str(number)))
+            if done.returncode != -signal.SIGKILL:
+                break
+            names = os.listdir(new)
+            left.update(names or ["nothing"])
+            self.that("killed at call %d it leaves no more than one file" % number, names in ([], ["server-0.journal.part"], ["server-0.journal"]))
+            self.that("killed at call %d it changes nothing of the old folder" % number, tree(old), before)
+            if names != ["server-0.journal"]:
+                self.that("after call %d a second one makes the same" % number, self.renewed("a second call works", old, new, at), told)
+            self.that("after call %d nothing else is left" % number, os.listdir(new), ["server-0.journal"])
+        self.that("it ended well once it wasn't killed", (done.returncode, done.stderr), (0, b""))
+        self.that("it was killed before, amid and after", left, {"nothing", "server-0.journal.part", "server-0.journal"})
+        print("renew: killed at %d calls" % (number - 1))
+
     def parts(self):
         """What a call that was cut off may have left in the .part: nothing, a part, more, or something else."""
         rows = grouped([("k/%02d" % number, number) for number in range(40)])
@@ -482,8 +514,11 @@ class Tries:
         self.that("their databases are one", rows[1:], [rows[0]] * 2)
         self.that("rooms were claimed, and settings made", (len(rows[0]) > 6000, sum(row.startswith("set/") for row in rows[0])), (True, 3 * 125))
         self.that("all hold all of it", self.ended(servers), at)
+        before = [self.exported(old, index) for index in range(3)]
+        self.that("each export has them", (len(before[0]), before[1:]), (len(rows[0]), [before[0]] * 2))
         told = [self.renewed("server %d is renewed" % index, old, new, at, index=index) for index in range(3)]
         self.that("the same at all", told[1:], [told[0]] * 2)
+        self.that("each new journal exports the same", [self.exported(new, index) for index in range(3)], before)
         self.that("as few Writes as can put the rows", told[0] and told[0][:2], (len(rows[0]), -(-len(rows[0]) // MOST_OPS)))
         servers = self.store(new, 3)
         for index, server in enumerate(servers):
@@ -495,7 +530,7 @@ class Tries:
 
     def run(self, groups):
         every = {"words": self.words, "refused": self.refused, "damaged": self.damaged, "without": self.without, "numbers": self.numbers, "parts": self.parts,
-                 "stores": self.stores, "year": self.year, "kills": self.kill, "room": self.half}
+                 "stores": self.stores, "year": self.year, "kills": self.kill, "calls": self.kill_at_calls, "room": self.half}
         for name in groups or every:
             begun = time.monotonic()
             every[name]()
