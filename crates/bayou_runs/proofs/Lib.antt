@@ -1,0 +1,7 @@
+pub mod Lists
+pub mod Orders
+pub mod Operating
+pub mod Replying
+pub mod Pulling
+pub mod Turning
+pub mod Running
