@@ -1,8 +1,8 @@
 """Each bit of what is kept turned, tried from outside: what was told stays, but for the very last, or the fault is named and nothing changes."""
-import multiprocessing
 import os
 import re
 import shutil
+import struct
 import subprocess
 
 import frames
@@ -12,9 +12,8 @@ from meeting import free_port
 # Where not each bit is tried, every so many are, and each of these first bytes of the first and the last entries.
 STEP = 997
 EDGE_BYTES = 3
-# How many processes try them, and how many bits each takes at once.
-AT_ONCE = 8
-BITS_AT_ONCE = 64
+# How many processes try them at once.
+AT_ONCE = 4
 DROPPED = r"bayou: .*: the last entry is damaged: its [0-9]+ bytes from byte [0-9]+ on were dropped\n"
 TORN = r"bayou: dropped [0-9]+ bytes of .*\n"
 DAMAGED = r"bayou: .*: it is whole up to byte [0-9]+, and the [0-9]+ bytes behind that are damaged; nothing was changed\n"
@@ -40,8 +39,12 @@ def places(whole, starts, each):
     return sorted(bits)
 
 
-def turned(whole, bit):
-    return whole[:bit // 8] + bytes([whole[bit // 8] ^ 1 << bit % 8]) + whole[bit // 8 + 1:]
+def flip(tries):
+    """What .ci/flip.c is for LD_PRELOAD."""
+    if getattr(tries, "flip", None) is None:
+        tries.flip = os.path.join(tries.room, "flip.so")
+        subprocess.run(["cc", "-O1", "-Wall", "-shared", "-fPIC", "-o", tries.flip, "flip.c"], check=True)
+    return tries.flip
 
 
 class Bits:
@@ -52,56 +55,57 @@ class Bits:
         with open(path, "rb") as file:
             self.whole = file.read()
         self.starts = entries_of(self.whole)
-        self.copies = {}
-        self.most = self.count(self.call(self.whole))
+        done = subprocess.run([tries.program] + words, input=given, stdout=subprocess.PIPE, stderr=subprocess.PIPE, timeout=SECONDS, cwd=self.copy())
+        self.most = self.count(done.stdout.decode())
 
     def copy(self):
-        """A copy of the folder, which is this process's own."""
-        if os.getpid() not in self.copies:
-            self.copies[os.getpid()] = os.path.join(self.tries.folder(), "copy")
-            shutil.copytree(os.path.dirname(self.path), self.copies[os.getpid()])
-        return self.copies[os.getpid()]
+        """A copy of the folder."""
+        made = os.path.join(self.tries.folder(), "copy")
+        shutil.copytree(os.path.dirname(self.path), made)
+        return made
 
-    def call(self, kept):
-        """A call over a copy of the folder whose file has these bytes: its status, what it printed and told, and what the file has then."""
-        folder = self.copy()
-        path = os.path.join(folder, os.path.basename(self.path))
-        with open(path, "wb") as file:
-            file.write(kept)
-        done = subprocess.run([self.tries.program] + self.words, input=self.given, stdout=subprocess.PIPE, stderr=subprocess.PIPE, timeout=SECONDS, cwd=folder)
-        with open(path, "rb") as file:
-            left = file.read()
-        for name in set(os.listdir(folder)) - set(os.listdir(os.path.dirname(self.path))):
-            os.remove(os.path.join(folder, name))
-        return done.returncode, done.stdout.decode(), done.stderr.decode(), left
-
-    def count(self, call):
-        found = re.search(self.number, call[1])
+    def count(self, printed):
+        found = re.search(self.number, printed)
         return None if found is None else int(found.group(1))
 
-    def is_well(self, bit):
-        kept = turned(self.whole, bit)
-        status, _, told, left = call = self.call(kept)
-        if self.count(call) is None:
-            return status != 0 and left == kept and re.fullmatch(self.named, told) is not None
+    def calls(self, bits):
+        """Calls of the program, each with one of these bits turned."""
+        folder, listed = self.copy(), os.path.join(self.tries.folder(), "bits")
+        with open(listed, "wb") as file:
+            file.write(b"".join(bit.to_bytes(4, "little") for bit in bits))
+        variables = {"LD_PRELOAD": flip(self.tries), "FLIPPED": os.path.basename(self.path), "BITS": listed, "TOLD": listed + ".told", "GIVEN": self.given.decode()}
+        return subprocess.Popen([self.tries.program] + self.words, cwd=folder, env={**os.environ, **variables}), listed + ".told"
+
+    def is_well(self, bit, status, same, left, printed, told):
+        count = self.count(printed)
+        if count is None:
+            return status != 0 and same == left == len(self.whole) and re.fullmatch(self.named, told) is not None
         # What goes is the last entry, and that is told.
-        return left.startswith(kept[:self.starts[-2]]) and self.count(call) >= self.most - 1 and re.match(self.dropped, told) is not None
+        return same >= self.starts[-2] and count >= self.most - 1 and re.match(self.dropped, told) is not None
+
+    def wrong(self, told, bits):
+        """Those of the bits that took what they may not, or of which nothing came."""
+        with open(told, "rb") as file:
+            text = file.read()
+        at, wrong = 0, []
+        for bit in bits:
+            found, status, same, left, printed, more = struct.unpack_from("<6I", text, at) if at < len(text) else (None,) * 6
+            if found != bit:
+                return wrong + [bit]
+            at += 24 + printed + more
+            if not self.is_well(bit, status, same, left, text[at - printed - more:at - more].decode(), text[at - more:at].decode()):
+                wrong.append(bit)
+        return wrong
 
     def go(self, each, name):
         bits = list(places(self.whole, self.starts, each))
-        with multiprocessing.get_context("fork").Pool(AT_ONCE, take, (self,)) as pool:
-            wrong = [bit for bit, is_well in zip(bits, pool.imap(tries_well, bits, BITS_AT_ONCE)) if not is_well]
-        self.tries.that("no bit %s takes a told Write but the last (those that do: %s)" % (name, wrong[:8]), (self.most is None, len(wrong)), (False, 0))
-
-
-def take(bits):
-    """Has this process try bits of this file."""
-    global taken
-    taken = bits
-
-
-def tries_well(bit):
-    return taken.is_well(bit)
+        parts = [bits[at::AT_ONCE] for at in range(AT_ONCE)]
+        begun = [(self.calls(part), part) for part in parts if part]
+        wrong = []
+        for (call, told), part in begun:
+            call.wait()
+            wrong += self.wrong(told, part)
+        self.tries.that("no bit of %d %s takes a told Write but the last (those that do: %s)" % (len(bits), name, wrong[:8]), (self.most is None, len(wrong)), (False, 0))
 
 
 def write(tries, folder, count):
