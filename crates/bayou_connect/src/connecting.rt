@@ -118,10 +118,7 @@ fn prompt<E: Write>(desk: &Desk, errors: &mut E) -> Result<(), ConnectFault>
 }
 
 // Tells, as far as it can be told, who answered in place of a server, where that wasn't told yet.
-pub(crate) fn tell_strangers<E: Write>(
-    desk: &mut Desk,
-    errors: &mut E,
-) -> Result<(), ConnectFault>
+pub(crate) fn tell_strangers<E: Write>(desk: &mut Desk, errors: &mut E) -> Result<(), ConnectFault>
     ensures same { IsSameDesk desk.old desk.new }
     ensures fault { IfErr result (λ fault. fault ≡ Memory) }
 {

@@ -54,7 +54,7 @@ impl Progress {
         errors: &mut E,
         done: usize,
     ) -> Result<(), ConnectFault>
-        ensures silent { self.old.is_terminal ≡ false → (result ≡ Ok ()) × (self.new ≡ self.old) × (errors.new ≡ errors.old) }
+        ensures silent { self.old.is_terminal ≡ false → (result ≡ Ok tt) × (self.new ≡ self.old) × (errors.new ≡ errors.old) }
         ensures same { (self.new.is_terminal ≡ self.old.is_terminal) × (self.new.of ≡ self.old.of) }
         ensures fault { IfErr result (λ fault. fault ≡ Memory) }
     {

@@ -3,4 +3,4 @@ use Rattle.bayou_connect.specs.Desks.{IsSameDesk}
 use Rattle.bayou_connect.proofs.connecting.tell_strangers.Given as goal
 
 abbrev pub invariant-loop-at : goal.invariant-loop-at
-invariant-loop-at l = IsSameDesk l.initial.desk l.desk
+invariant-loop-at g l = IsSameDesk l.initial.desk l.desk
