@@ -22,7 +22,7 @@ use Rattle.bayou_server.specs.Writes.{Writes}
 use Rattle.bayou_device.specs.Memory.{Memory}
 use Rattle.bayou_session.specs.Needs.{Told, after_read, after_write, read_need, write_need}
 use Rattle.bayou_text.specs.Said.{Said, read, write, again}
-use Rattle.bayou_script.specs.Capacity.{operations}
+use Rattle.bayou_script.specs.Capacity.{operation_of, operations}
 use Rattle.bayou_script.specs.Script.{Plan, is_open}
 use Rattle.bayou_answers.specs.declared.answer.Answer.{Answer}
 use Rattle.bayou_answers.specs.declared.answer.Answer.TheVariants.{Lost}
@@ -93,15 +93,15 @@ module _ (plan : Plan) (in_range : IsInRange plan) (have : HaveRows plan) where
 
   -- no reply comes where no place is left: nothing is done
   no_place : (front : List Said) (said : Said) (others : List Said) (state new : ScriptState) (old : Machine) → IsAt plan front (said ∷ others) state old → OpensNone said → (who : SessionId) (place : ℕ) (replica : ScriptServer) (now : Seat)
-      → StandsAt state.standing place replica → is_open who.index front ≡ true → (answer : Answer) → answer ≡ Lost who → now ≡ seat_of state.standing who
+      → StandsAt state.standing place replica → is_open who.index front ≡ true → (seat_of state.standing who).told.begun ≡ MAX_PLACES → operation_of said ≡ Some who.index → (answer : Answer) → answer ≡ Lost who → now ≡ seat_of state.standing who
       → new.standing ≡ with_session (with_server state.standing place replica) who now → (filed : List Entry) → Files who.index place (seat_of state.standing who).told (what_told answer) filed
       → new.book ≡ record state.book { entries = state.book.entries ++ filed } → IsTold plan front others said new old answer
-  no_place front said others state new old at opens_none who place replica now stands opened_there answer is_lost same only filed files books =
+  no_place front said others state new old at opens_none who place replica now stands opened_there full operates answer is_lost same only filed files books =
       let none : filed ≡ [] = none_filed who.index place (seat_of state.standing who).told (what_told answer) filed (ap what_told is_lost) files in
       let seated = at.opened who opened_there in
       record {
         last = old;
-        turn = record { events = []; replies = []; is = subst (λ (a : Answer). IsLine old said a [] []) (sym is_lost) (IsLine.none said (Lost who) tt); run = refl };
+        turn = record { events = []; replies = []; is = subst (λ (a : Answer). IsLine old said a [] []) (sym is_lost) (IsLine.no_place said who seated.session operates seated.there (sym seated.is.telling.begun ∙ full)); run = refl };
         at = moved plan front said others state new old old at opens_none [] [] refl who place replica replica now stands opened_there
             (record { count = refl; limit = refl; capacity = refl; servers = λ other differs. refl; sessions = λ other differs. refl; offers = refl; items = refl })
             (at.each place replica stands) (subst (IsSeated old who.index) (sym same) seated) only
@@ -157,7 +157,7 @@ module _ (plan : Plan) (in_range : IsInRange plan) (have : HaveRows plan) where
       let said = read who.index place key in
       let only_it : new.standing ≡ with_session (with_server state.standing place replica) who now = only ∙ sym (ap (λ (s : Standing). with_session s who now) (same_server state.standing place replica stands)) in
       elim does as (λ _. IsTold plan front others said new old answer) [
-        | inl (GetsNoReply.no_place none is_lost same) ↦ no_place front said others state new old at (λ other. refl) who place replica now stands opened_there answer is_lost same only_it filed files books
+        | inl (GetsNoReply.no_place none is_lost same) ↦ no_place front said others state new old at (λ other. refl) who place replica now stands opened_there none refl answer is_lost same only_it filed files books
         | inl (GetsNoReply.stopped left stopped more is_lost same) ↦ absurd (runs front (said ∷ others) state old at place replica stands left stopped)
         | inr reads ↦
             let seated = at.opened who opened_there in
@@ -335,7 +335,7 @@ module _ (plan : Plan) (in_range : IsInRange plan) (have : HaveRows plan) where
       let said = write who.index place program in
       elim does as (λ _. IsTold plan front others said new old answer) [
         | inl (GetsNoReply.no_place none is_lost same, unmoved) ↦
-            no_place front said others state new old at (λ other. refl) who place before now stands opened_there answer is_lost same
+            no_place front said others state new old at (λ other. refl) who place before now stands opened_there none refl answer is_lost same
             (only ∙ ap (λ a. with_session (with_server state.standing place a) who now) unmoved) filed files books
         | inl (GetsNoReply.stopped left stopped more is_lost same, unmoved) ↦ absurd (runs front (said ∷ others) state old at place before stands left stopped)
         | inr answers ↦
@@ -377,7 +377,7 @@ module _ (plan : Plan) (in_range : IsInRange plan) (have : HaveRows plan) where
       let place = asking.server in
       elim does as (λ _. IsTold plan front others said new old answer) [
         | inl (GetsNoReply.no_place none is_lost same, unmoved) ↦
-            no_place front said others state new old at (λ other. refl) who place before now stands opened_there answer is_lost same
+            no_place front said others state new old at (λ other. refl) who place before now stands opened_there none refl answer is_lost same
             (only ∙ ap (λ a. with_session (with_server state.standing place a) who now) unmoved) filed files books
         | inl (GetsNoReply.stopped left stopped more is_lost same, unmoved) ↦ absurd (runs front (said ∷ others) state old at place before stands left stopped)
         | inr (number, is_number, answers) ↦

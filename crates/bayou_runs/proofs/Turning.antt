@@ -411,6 +411,10 @@ module _ (plan : Plan) (in_range : IsInRange plan) (have : HaveRows plan) (stand
   asking_of None one is = absurd (cc)
   asking_of (Some asking) one is = (asking, refl, some_of (asked_by_it asking) one is)
 
+  none_of : (asked : Option Asking) → option_map asked_by_it asked ≡ None → asked ≡ None
+  none_of None is = refl
+  none_of (Some asking) is = absurd (cc)
+
   again_line : (front others : List Said) (state new : ScriptState) (old : Machine) (who : SessionId) (answer : Answer) → IsAt plan front (again who.index ∷ others) state old → is_open who.index front ≡ true
       → Turn state (again who.index) answer new → IsTold plan front others (again who.index) new old answer
   again_line front others state new old who answer at opened_there turn = by_asked (asked_by state.standing who.index) refl turn
@@ -418,9 +422,16 @@ module _ (plan : Plan) (in_range : IsInRange plan) (have : HaveRows plan) (stand
       by_asked : (asked : Option Asked) → asked_by state.standing who.index ≡ asked → Does (option_map (λ (a : Asked). (who.index, a.server)) asked) state (again who.index) answer new → IsTold plan front others (again who.index) new old answer
       by_asked None none leaves =
           let step = subst (λ o. AsksAgain o state.standing who.index answer new.standing) none leaves.step in
+          let seated = at.opened who opened_there in
           record {
             last = old;
-            turn = record { events = []; replies = []; is = subst (λ (a : Answer). IsLine old (again who.index) a [] []) (sym step.2) (IsLine.none (again who.index) (NotAgain step.0) tt); run = refl };
+            turn = record {
+              events = [];
+              replies = [];
+              is = subst (λ (a : Answer). IsLine old (again who.index) a [] []) (sym (step.2 ∙ ap NotAgain (session-ext step.0 who step.1)))
+                  (IsLine.not_again who seated.session seated.there (none_of seated.session.asked (sym seated.is.telling.asked ∙ (sym (asked_of state.standing who at.one_seat_each) ∙ none))));
+              run = refl;
+            };
             at = still front (again who.index) others state new old at (λ other. refl) (same_state state new step.3 leaves.same);
           }
       by_asked (Some asked) some tries =

@@ -1,9 +1,11 @@
 -- What a line of a script is told by: events of the machine of all servers (Terry et al. 1994, 1995), and their replies.
-use Rattle.std.specs.Prelude.{◌≡◌, ℕ, zero, suc, ◌+◌, Bool, true, false, IsTrue, List, [], ◌∷◌, ◌++◌, Option, Result, Ok, Err, length, map}
+use Rattle.std.specs.Prelude.{◌≡◌, ℕ, zero, suc, ◌+◌, Bool, true, false, IsTrue, List, [], ◌∷◌, ◌++◌, Option, None, Some, Result, Ok, Err, length, map}
 use Rattle.bayou_base.specs.declared.answer.Seen.{Seen}
 use Rattle.bayou_base.specs.declared.server.ServerId.{ServerId}
 use Rattle.bayou_base.specs.declared.session.SessionId.{SessionId}
+use Rattle.bayou_base.specs.declared.limits.TheConstants.{MAX_PLACES}
 use Rattle.bayou_lang.specs.declared.program.Program.{Program}
+use Rattle.bayou_script.specs.Capacity.{operation_of}
 use Rattle.bayou_server.specs.declared.answer.Took.{Took}
 use Rattle.bayou_server.specs.declared.answer.Written.{Written}
 use Rattle.bayou_server.specs.declared.fault.Behind.{Behind}
@@ -23,7 +25,7 @@ use Rattle.bayou_world.specs.declared.event.Event.{Event}
 use Rattle.bayou_world.specs.declared.event.Event.TheVariants as events
 use Rattle.bayou_world.specs.declared.reply.Reply.{Reply}
 use Rattle.bayou_world.specs.declared.reply.Reply.TheVariants as replies
-use Rattle.bayou_world.specs.Machine.{Machine}
+use Rattle.bayou_world.specs.Machine.{Machine, SessionSets}
 use Rattle.bayou_world.specs.Runs.{Run}
 
 -- the reply is heard, and its entry filed; or it is lost
@@ -68,17 +70,13 @@ is_quiet book = true
 is_quiet phase = true
 is_quiet _ = false
 
--- a line that came to nothing: no place was left, or there was nothing to ask again
-abbrev pub TellsNothing : Answer → Type 0
-TellsNothing (Lost who) = Unit {0}
-TellsNothing (NotAgain who) = Unit {0}
-TellsNothing _ = ⊥
-
--- The events and the replies that tell a line and its answer. A pull is an Offer, a Collect of that, and a Take of each item; a resend collects for
+-- The events and the replies that tell a line and its answer. An operation of a session that has no place left is none, nor is one that is asked again
+-- where there is nothing to ask. A pull is an Offer, a Collect of that, and a Take of each item; a resend collects for
 -- the first offer that there is, of a server that held nothing.
 pub data IsLine (old : Machine) : Said → Answer → List Event → List Reply → Type 0 where
   quiet : (said : Said) (answer : Answer) → IsTrue (is_quiet said) → IsLine old said answer [] []
-  none : (said : Said) (answer : Answer) → TellsNothing answer → IsLine old said answer [] []
+  no_place : (said : Said) (who : SessionId) (session : SessionSets) → operation_of said ≡ Some who.index → old.sessions who.index ≡ Some session → session.begun ≡ MAX_PLACES → IsLine old said (Lost who) [] []
+  not_again : (who : SessionId) (session : SessionSets) → old.sessions who.index ≡ Some session → session.asked ≡ None → IsLine old (again who.index) (NotAgain who) [] []
   a_read : (who : SessionId) (place : ServerId) (key : List ℕ) (result : Result Seen Behind) (answer : Answer) (es : List Event) (rs : List Reply) → Ends who (read_answer who key result) answer es rs
       → IsLine old (read who.index place.index key) answer (events.Read who place key ∷ es) (replies.Read result ∷ rs)
   a_write : (who : SessionId) (place : ServerId) (program : Program) (result : Result Written WriteFault) (answer : Answer) (es : List Event) (rs : List Reply) → Ends who (write_answer who result) answer es rs
