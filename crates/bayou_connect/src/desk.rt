@@ -1,5 +1,5 @@
 //! A person's desk, at which lines are done, and what becomes of them is printed.
-ghost use Rattle.std.specs.Prelude.{◌≡◌, ◌<◌, ◌≤◌, ◌&&◌, false, OnOk};
+ghost use Rattle.std.specs.Prelude.{◌≡◌, ◌<◌, ◌≤◌, ◌&&◌, false, OnOk, true};
 ghost use Rattle.bayou_base.specs.declared.limits.TheConstants.{SERVERS as NUMBER};
 ghost use Rattle.bayou_connect.specs.Claims.{IsMade, IsMadeAs};
 ghost use Rattle.bayou_connect.specs.Printing.{is_service, nothing_text, told_text};
@@ -96,6 +96,13 @@ impl Desk {
         }
         let line = told_line(self.alloc, self.servers, who, key, told)?;
         print(output, line.as_str())
+    }
+
+    /// Lets count what comes from here on alone: each operation so far counts as served.
+    pub(crate) fn begin_anew(&mut self)
+        ensures { self.new ≡ record self.old { is_served = true } }
+    {
+        self.is_served = true;
     }
 
     /// Prints that a Write did nothing. It isn't what was asked for.

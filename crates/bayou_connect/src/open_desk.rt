@@ -57,7 +57,7 @@ fn do_alone<W: Write, T: Files<File = File> + Sockets + Wait + Clock>(
 ) -> Result<Became, ConnectFault>
     ensures { IfOk result (DoesAlone line.now desk.old desk.new (account W.contents output.old) (account W.contents output.new)) }
 {
-    desk.is_served = true;
+    desk.begin_anew();
     do_line(rt, desk, output, line)
 }
 
