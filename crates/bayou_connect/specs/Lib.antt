@@ -13,6 +13,7 @@ pub mod Found
 pub mod Importing
 pub mod Keeping
 pub mod Listing
+pub mod Open
 pub mod Operating
 pub mod Own
 pub mod Plans
@@ -20,6 +21,7 @@ pub mod Printing
 pub mod Reader
 pub mod Remembered
 pub mod Round
+pub mod Seeing
 pub mod Sessions
 pub mod Silence
 pub mod Speaking

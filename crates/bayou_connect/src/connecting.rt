@@ -1,9 +1,10 @@
 //! The lines of an input, done as they come.
-ghost use Rattle.std.specs.Prelude.{◌≡◌, ◌*◌, ◌<◌, ◌≤◌, Bool, false, IfErr, IfOk, IsSomeAnd, MatchOption, None, length, option_copied, option_map, replicate, true, vec_len};
+ghost use Rattle.std.specs.Prelude.{◌≡◌, ◌*◌, ◌<◌, ◌≤◌, Bool, false, IfErr, IfOk, IfSome, IsSomeAnd, MatchOption, None, length, option_copied, option_map, replicate, true, vec_len};
 ghost use Rattle.bayou_base.specs.declared.limits.TheConstants.{SERVERS as SERVERS_NUMBER, SESSIONS as NUMBER};
 ghost use Rattle.bayou_connect.specs.Desks.{IsSameDesk};
 ghost use Rattle.bayou_connect.specs.Faults.{IsBookFault, IsStateFault};
 ghost use Rattle.bayou_connect.specs.declared.fault.ConnectFault.TheVariants.{Memory};
+ghost use Rattle.bayou_connect.specs.Open.{IsDeskOf};
 ghost use Rattle.bayou_connect.specs.Plans.{AsksBoth, Differ};
 ghost use Rattle.bayou_connect.specs.Remembered.{IsFoundIn};
 ghost use Rattle.bayou_connect.specs.Sessions.{IsOpenedFrom, kept_of};
@@ -72,7 +73,7 @@ pub enum Ended {
 }
 
 // Tells what is wrong with a line, as far as it can be told.
-fn tell_wrong<E: Write>(
+pub(crate) fn tell_wrong<E: Write>(
     alloc: Global,
     errors: &mut E,
     number: u64,
@@ -129,7 +130,7 @@ pub(crate) fn tell_strangers<E: Write>(
 }
 
 // Tells, as far as it can be told, that a Write was refused since a log is full, where that wasn't told yet.
-fn tell_full<E: Write>(desk: &mut Desk, errors: &mut E)
+pub(crate) fn tell_full<E: Write>(desk: &mut Desk, errors: &mut E)
     ensures told { desk.new.store.is_full ≡ false }
     ensures same { IsSameDesk desk.old desk.new }
 {
@@ -192,7 +193,7 @@ where
 }
 
 // How all lines ended, by whether one of them couldn't be done, and whether each operation was served.
-fn ended_by(is_wrong: bool, is_served: bool) -> Ended
+pub(crate) fn ended_by(is_wrong: bool, is_served: bool) -> Ended
     ensures { result ≡ ended_as is_wrong is_served }
 {
     match (is_wrong, is_served) {
@@ -398,6 +399,53 @@ pub(crate) fn desk_of(
     }
 }
 
+// A desk at the servers of the plan, with what is kept of sessions. `None` where the plan asks for something else than the session of short lines did when it
+// was kept: that is told, and nothing is asked.
+pub(crate) fn opened_desk<E, T>(
+    rt: &T,
+    alloc: Global,
+    plan: &Plan,
+    key: Option<StoreKey>,
+    names: Names<'_>,
+    errors: &mut E,
+) -> Result<Option<Desk>, ConnectFault>
+where
+    E: Write,
+    T: Files<File = File> + RandomSource,
+    ensures { IfOk result (λ desk. IfSome desk (IsDeskOf plan.now)) }
+{
+    let run = drawn_run(rt)?;
+    let first_number = first_number(rt, names.state.is_some())?;
+    let Found {
+        state,
+        views,
+        sessions,
+    } = found_in(rt, alloc, names.state, &key, run, errors)?;
+    let Some(asks) = own_asks(plan, &sessions, OWN) else {
+        if let (Some(path), Some(said), Some(kept)) = (
+            names.state,
+            plan.asks,
+            asks_kept(&sessions, OWN),
+        ) {
+            tell_other_asks(alloc, errors, path, kept, said)?;
+        }
+        return Ok(None);
+    };
+    let book = book_in(rt, alloc, names.book, plan.servers)?;
+    let store = Store::new(
+        alloc,
+        &plan.places,
+        sessions,
+        state,
+        book,
+        views,
+        plan.timeout_seconds,
+        greeter_of(rt, alloc, key)?,
+    )?;
+    let desk = desk_of(alloc, plan, store, run, first_number, OWN, asks);
+    Ok(Some(desk))
+}
+
 /// Does the lines of an input as they come, at the servers of the plan, until it ends, or until a line can't be done that no person types. With the key of a
 /// store a server that doesn't prove that it has that key is asked nothing. What
 /// sessions read and wrote is kept in a file, and what they were served goes into another, where these have names. Where the plan asks for something else
@@ -418,34 +466,8 @@ where
     E: Write,
     T: Files<File = File> + Sockets + Wait + Clock + RandomSource,
 {
-    let run = drawn_run(rt)?;
-    let first_number = first_number(rt, names.state.is_some())?;
-    let Found {
-        state,
-        views,
-        sessions,
-    } = found_in(rt, alloc, names.state, &key, run, errors)?;
-    let Some(asks) = own_asks(plan, &sessions, OWN) else {
-        if let (Some(path), Some(said), Some(kept)) = (
-            names.state,
-            plan.asks,
-            asks_kept(&sessions, OWN),
-        ) {
-            tell_other_asks(alloc, errors, path, kept, said)?;
-        }
+    let Some(mut desk) = opened_desk(rt, alloc, plan, key, names, errors)? else {
         return Ok(Ended::Refused);
     };
-    let book = book_in(rt, alloc, names.book, plan.servers)?;
-    let store = Store::new(
-        alloc,
-        &plan.places,
-        sessions,
-        state,
-        book,
-        views,
-        plan.timeout_seconds,
-        greeter_of(rt, alloc, key)?,
-    )?;
-    let mut desk = desk_of(alloc, plan, store, run, first_number, OWN, asks);
     do_lines(rt, &mut desk, input, output, errors)
 }

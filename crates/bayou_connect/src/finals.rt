@@ -201,6 +201,19 @@ impl Desk {
         self.store.keep_views(rt)
     }
 
+    /// Tells how own Writes stand of which there is news, by what servers told before of what they hold. What was told is kept once it is printed.
+    pub(crate) fn tell_news<W: Write, T: Files<File = File> + Sockets + Clock>(
+        &mut self,
+        rt: &T,
+        output: &mut Output<W>,
+    ) -> Result<(), ConnectFault>
+        ensures told { OnOk result (TellsAsLooked News (outlook_of self.new.store.views) (account W.contents output.old) (account W.contents output.new)) }
+        ensures same { IsSameDesk self.old self.new × (self.new.is_served ≡ self.old.is_served) }
+    {
+        self.tell_each_own(rt, output, Telling::News)?;
+        self.store.keep_views(rt)
+    }
+
     /// Waits until each own Write is final, for so many seconds at the most, and tells each as it is. It isn't what was asked for where one is left, or came to
     /// nothing.
     pub(crate) fn wait_for_finals<W: Write, T: Files<File = File> + Sockets + Clock>(

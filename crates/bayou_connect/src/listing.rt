@@ -228,7 +228,7 @@ impl Desk {
     }
 
     // Which keys may change yet where these rows were told, as far as that is known.
-    fn beyond<T: Sockets + Clock>(
+    pub(crate) fn beyond<T: Sockets + Clock>(
         &mut self,
         rt: &T,
         rows: &Rows,
@@ -322,7 +322,7 @@ impl Desk {
 }
 
 // What keys begin with that begin like this one, or all keys.
-fn prefix_of(named: Option<&Key>) -> Prefix
+pub(crate) fn prefix_of(named: Option<&Key>) -> Prefix
     ensures { result ≡ prefix_named (option_copied named.entry) }
 {
     let text = match named {

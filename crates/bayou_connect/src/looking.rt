@@ -266,6 +266,18 @@ impl Store {
         self.go_on(rt, &views)
     }
 
+    /// The same, also where it isn't kept how far they are: what each server told that it holds, by its place in the list.
+    pub(crate) fn look_around<T: Sockets + Clock>(
+        &mut self,
+        rt: &T,
+    ) -> Result<Vec<Option<Vector>>, ConnectFault>
+        ensures same { IsSameStore self.old self.new }
+    {
+        let views = self.views(rt)?;
+        self.go_on(rt, &views)?;
+        Ok(views)
+    }
+
     /// What became of a Write, by the first server that holds it and tells that: its own first. Servers that are silent aren't asked.
     pub(crate) fn placed<T: Sockets + Clock>(
         &mut self,
