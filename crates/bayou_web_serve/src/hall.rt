@@ -153,7 +153,7 @@ impl<'a, C: Wait + Clock + Send + Sync> Host for Reception<'a, C> {
 }
 
 impl<C: Wait + Clock + Send + Sync> Attendant for Reception<'_, C> {
-    fn pause<T: Wait>(&self, rt: &T) {
-        thread::sleep(rt, Duration::from_millis(PAUSE_MILLISECONDS));
+    fn pause<T: Wait>(&self, _rt: &T) {
+        thread::sleep(self.rt, Duration::from_millis(PAUSE_MILLISECONDS));
     }
 }

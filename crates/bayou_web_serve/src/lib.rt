@@ -9,10 +9,12 @@
 
 pub mod counter;
 pub mod hall;
+pub mod page;
 pub mod serving;
 pub mod timed;
 
 pub use counter::{Counter, NotDone};
 pub use hall::{AtCounter, Hall, Reception};
+pub use page::{Page, PageFault};
 pub use serving::{Habits, serve_over, serve_site, serve_stream};
-pub use timed::{Limit, Timed};
+pub use timed::{Limit, Timed, milliseconds};

@@ -170,6 +170,8 @@ pub(crate) fn put_notices(out: &mut Writer, notices: &[Notice]) -> Result<(), Al
         out.u64(notice.number)?;
         out.key("text")?;
         out.string(notice.text.as_str())?;
+        out.key("line")?;
+        put_text(out, notice.line.as_deref())?;
         out.end_object()?;
     }
     out.end_array()

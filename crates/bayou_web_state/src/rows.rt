@@ -17,7 +17,7 @@ fn begins_with(key: &Key, prefix: &str) -> bool
 
 // Its kind, and the value as a text: a number may have more digits than readers of JSON keep.
 fn put_value(out: &mut Writer, value: &Value) -> Result<(), AllocError>
-    ensures { OnOk result (out.new.tokens ≡ out.old.tokens ++ value_tokens value.now) }
+    ensures put { OnOk result (out.new.tokens ≡ out.old.tokens ++ value_tokens value.now) }
     ensures before { out.new.before ≡ out.old.before }
 {
     out.key("type")?;
@@ -37,7 +37,7 @@ fn put_value(out: &mut Writer, value: &Value) -> Result<(), AllocError>
 
 // How the value stands, as a word, or null.
 fn put_standing(out: &mut Writer, standing: Option<Standing>) -> Result<(), AllocError>
-    ensures { OnOk result (out.new.tokens ≡ out.old.tokens ++ standing_token standing ∷ []) }
+    ensures put { OnOk result (out.new.tokens ≡ out.old.tokens ++ standing_token standing ∷ []) }
     ensures before { out.new.before ≡ out.old.before }
 {
     match standing {
@@ -48,7 +48,7 @@ fn put_standing(out: &mut Writer, standing: Option<Standing>) -> Result<(), Allo
 
 /// A row: `{"key":"mon/9/blue","type":"text","value":"kim","standing":"final"}`.
 fn put_row(out: &mut Writer, row: &Row) -> Result<(), AllocError>
-    ensures { OnOk result (out.new.tokens ≡ out.old.tokens ++ row_tokens row.now) }
+    ensures put { OnOk result (out.new.tokens ≡ out.old.tokens ++ row_tokens row.now) }
     ensures before { out.new.before ≡ out.old.before }
 {
     out.begin_object()?;
@@ -62,7 +62,7 @@ fn put_row(out: &mut Writer, row: &Row) -> Result<(), AllocError>
 
 // The row, if its key begins so.
 fn put_if_asked(out: &mut Writer, prefix: &str, row: &Row) -> Result<(), AllocError>
-    ensures { OnOk result (out.new.tokens ≡ out.old.tokens ++ rows_tokens prefix.now (row.now ∷ [])) }
+    ensures put { OnOk result (out.new.tokens ≡ out.old.tokens ++ rows_tokens prefix.now (row.now ∷ [])) }
     ensures before { out.new.before ≡ out.old.before }
 {
     if begins_with(&row.key, prefix) {
@@ -73,7 +73,7 @@ fn put_if_asked(out: &mut Writer, prefix: &str, row: &Row) -> Result<(), AllocEr
 
 /// Each row whose key begins so, in order.
 pub(crate) fn put_rows(out: &mut Writer, prefix: &str, rows: &[Row]) -> Result<(), AllocError>
-    ensures { OnOk result (out.new.tokens ≡ out.old.tokens ++ rows_tokens prefix.now rows.now) }
+    ensures put { OnOk result (out.new.tokens ≡ out.old.tokens ++ rows_tokens prefix.now rows.now) }
     ensures before { out.new.before ≡ out.old.before }
 {
     for row in rows {

@@ -1,8 +1,9 @@
 //! What is seen of a store.
-ghost use Rattle.std.specs.Prelude.{◌≡◌, ◌≤◌, [], length};
+ghost use Rattle.std.specs.Prelude.{◌≡◌, ◌≤◌, [], OnOk, map};
+ghost use Rattle.bayou_web_state.specs.declared.seen.Own.{Own as OwnOne};
 ghost use Rattle.bayou_base.specs.declared.limits.TheConstants.{SERVERS as NUMBER};
 
-use bayou_base::{Asks, Key, ServerId, Value, Vector};
+use bayou_base::{Asks, Key, ServerId, Value, Vector, Wid};
 use bayou_final::Standing;
 use bayou_outlook::OwnWrite;
 use std::alloc::{AllocError, Global};
@@ -10,9 +11,6 @@ use std::net::SocketAddr;
 
 /// How many notices are kept at the most. One more, and the oldest goes.
 const MAX_NOTICES: usize = 64;
-
-/// How many lines are kept at the most beside own Writes. One more, and the oldest goes.
-const MAX_LINES: usize = 128;
 
 /// A key that has a value, with that.
 #[derive(Debug, Drop)]
@@ -36,6 +34,27 @@ pub struct ServerSeen {
     pub limit: Option<u32>,
 }
 
+impl ServerSeen {
+    // As it is now; what it held, and may hold, as it told last.
+    fn behind(self, before: &ServerSeen) -> ServerSeen
+        ensures { (result.id ≡ self.id) × (result.is_up ≡ self.is_up) }
+    {
+        ServerSeen {
+            view: self.view.or(before.view),
+            limit: self.limit.or(before.limit),
+            ..self
+        }
+    }
+}
+
+// The text, kept.
+fn kept_text(alloc: Global, text: Option<&str>) -> Result<Option<String>, AllocError> {
+    match text {
+        None => Ok(None),
+        Some(text) => Ok(Some(text.to_string(alloc)?)),
+    }
+}
+
 /// An own Write that wasn't told as final yet, and the line that made it, where that is known.
 #[derive(Debug, Drop)]
 pub struct Own {
@@ -49,6 +68,8 @@ pub struct Notice {
     /// Which it is, from 1 on.
     pub number: u64,
     pub text: String,
+    /// The line that made the own Write of which it tells, where that is known.
+    pub line: Option<String>,
 }
 
 /// What the session of a person asks for, has read and written.
@@ -100,14 +121,89 @@ impl Seen {
         }
     }
 
+    // The line that made the own Write of this name, where that is known.
+    fn line_of(&self, wid: Wid) -> Option<&str> {
+        let own = self.own.iter().find(|own| own.write.wid == wid)?;
+        own.line.as_deref()
+    }
+
+    /// The own Writes are these now. The line made those that weren't there before, if one is there.
+    pub fn own_now(
+        &mut self,
+        alloc: Global,
+        own: &[OwnWrite],
+        line: Option<&str>,
+    ) -> Result<(), AllocError>
+        ensures own { OnOk result (map (λ (one : OwnOne). one.write) self.new.own.items ≡ own.now) }
+        ensures same { self.new.rows ≡ self.old.rows }
+    {
+        let mut now = Vec::with_capacity(alloc, own.len())?;
+        for write in own {
+            let line = self.line_of(write.wid).or(line);
+            now.push(Own {
+                write: *write,
+                line: kept_text(alloc, line)?,
+            })?;
+        }
+        self.own = now;
+        Ok(())
+    }
+
+    /// The server told this as it was asked last, or nothing.
+    pub fn server_now(
+        &mut self,
+        id: ServerId,
+        address: SocketAddr,
+        view: Option<Vector>,
+        limit: Option<u32>,
+    ) -> Result<(), AllocError>
+        ensures same { (self.new.rows ≡ self.old.rows) × (self.new.own ≡ self.old.own) }
+    {
+        let now = ServerSeen {
+            id,
+            address,
+            is_up: view.is_some(),
+            view,
+            limit,
+        };
+        match self.servers.iter().position(|server| server.id == id) {
+            None => self.servers.push(now)?,
+            Some(at) => {
+                if let Some(server) = self.servers.get_mut(at) {
+                    *server = now.behind(server);
+                }
+            }
+        }
+        Ok(())
+    }
+
+    // The line of the own Write that a notice names by its third word, where that is known.
+    fn line_named(&self, alloc: Global, text: &str) -> Result<Option<String>, AllocError> {
+        let Some(name) = text.split(' ').nth(2) else {
+            return Ok(None);
+        };
+        for own in &self.own {
+            let (origin, seq) = (own.write.wid.origin.index, own.write.wid.seq);
+            let written = format!(in alloc; "{origin}:{seq}")?;
+            if written.as_str() == name {
+                return kept_text(alloc, own.line.as_deref());
+            }
+        }
+        Ok(None)
+    }
+
     /// One more notice, the last of so many.
-    pub fn note(&mut self, text: String) -> Result<(), AllocError> {
+    pub fn note(&mut self, alloc: Global, text: &str) -> Result<(), AllocError>
+        ensures same { (self.new.rows ≡ self.old.rows) × (self.new.own ≡ self.old.own) }
+    {
+        let line = self.line_named(alloc, text)?;
+        let text = text.to_string(alloc)?;
         if self.notices.len() >= MAX_NOTICES {
             self.notices.remove(0);
         }
         self.noticed = self.noticed.saturating_add(1);
         let number = self.noticed;
-        self.notices.push(Notice { number, text })?;
+        self.notices.push(Notice { number, text, line })?;
         Ok(())
     }
 }

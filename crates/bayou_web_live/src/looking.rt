@@ -1,0 +1,150 @@
+//! What is seen, as servers tell it.
+
+use bayou_base::{ServerId, Vector};
+use bayou_connect::{ConnectFault, Ended, OpenDesk, SeenRow, SeenRows};
+use bayou_net::Sockets;
+use bayou_streams::Output;
+use bayou_web_serve::Hall;
+use bayou_web_state::{Done, Row, Seen, SeenSession, ServerSeen, done_text};
+use std::alloc::{AllocError, Global};
+use std::fs::{File, Files};
+use std::str;
+use std::sync::Wait;
+use std::time::Clock;
+
+/// The status where some operation wasn't served.
+const UNSERVED: u8 = 1;
+
+/// The status of a line that can't be done.
+const REFUSED: u8 = 2;
+
+/// What threads share, and the desk.
+#[derive(Drop)]
+pub(crate) struct Looking<'a, T> {
+    pub(crate) rt: &'a T,
+    pub(crate) alloc: Global,
+    pub(crate) hall: &'a Hall,
+    pub(crate) desk: OpenDesk,
+}
+
+fn status_of(ended: Ended) -> u8 {
+    match ended {
+        Ended::Served => 0,
+        Ended::Unserved => UNSERVED,
+        Ended::Refused => REFUSED,
+    }
+}
+
+// The rows, as they are shown.
+fn shown_rows(alloc: Global, rows: Vec<SeenRow>) -> Result<Vec<Row>, AllocError> {
+    let mut shown = Vec::with_capacity(alloc, rows.len())?;
+    for row in rows {
+        let SeenRow {
+            key,
+            value,
+            standing,
+        } = row;
+        shown.push_reserved(Row {
+            key,
+            value,
+            standing,
+        });
+    }
+    Ok(shown)
+}
+
+// Each line of a text is a notice.
+fn note_each(alloc: Global, seen: &mut Seen, text: &[u8]) -> Result<(), AllocError> {
+    let text = str::from_utf8(text).unwrap_or("");
+    for line in text.lines() {
+        seen.note(alloc, line)?;
+    }
+    Ok(())
+}
+
+impl<T: Files<File = File> + Sockets + Wait + Clock> Looking<'_, T> {
+    // The session, as it is now, and the own Writes; the last of them was made by the line, if one is there.
+    fn show_own(&self, seen: &mut Seen, line: Option<&str>) -> Result<(), AllocError> {
+        seen.own_now(self.alloc, self.desk.own(), line)?;
+        seen.session = match self.desk.session() {
+            None => None,
+            Some(session) => {
+                let past = session.past();
+                Some(SeenSession {
+                    asks: session.asks(),
+                    reads: past.reads,
+                    writes: past.writes,
+                })
+            }
+        };
+        Ok(())
+    }
+
+    // The servers, as they were asked last.
+    fn show_servers(&self, seen: &mut Seen) -> Result<(), AllocError> {
+        let views = self.desk.views();
+        let mut at: usize = 0;
+        for server in self.desk.servers()? {
+            let view = match views.get(at) {
+                Some(view) => *view,
+                None => None,
+            };
+            seen.server_now(server.place.id, server.place.address, view, server.limit)?;
+            at = at.saturating_add(1);
+        }
+        Ok(())
+    }
+
+    // The rows that were told, if any were.
+    fn show_rows(&self, seen: &mut Seen, rows: Option<SeenRows>) -> Result<(), AllocError> {
+        let Some(told) = rows else {
+            seen.is_current = false;
+            return Ok(());
+        };
+        seen.rows = shown_rows(self.alloc, told.rows)?;
+        seen.told = Some((told.server, told.vector));
+        seen.is_current = true;
+        Ok(())
+    }
+
+    /// Asks servers what they hold, and shows that: all rows where something changed, or where they weren't told at last.
+    pub(crate) fn look(&mut self) -> Result<(), ConnectFault> {
+        let (mut news, mut told) = (Vec::new(self.alloc), Vec::new(self.alloc));
+        let is_new = self.desk.look(self.rt, &mut Output::new(&mut news))?;
+        let is_current = self.hall.seen.lock(self.rt).is_current;
+        let rows = if is_new || !is_current {
+            Some(self.desk.rows(self.rt)?)
+        } else {
+            None
+        };
+        self.desk.tell_strangers(&mut told)?;
+        let mut seen = self.hall.seen.lock(self.rt);
+        note_each(self.alloc, &mut seen, &told)?;
+        note_each(self.alloc, &mut seen, &news)?;
+        self.show_own(&mut seen, None)?;
+        self.show_servers(&mut seen)?;
+        match rows {
+            Some(rows) => Ok(self.show_rows(&mut seen, rows)?),
+            None => Ok(()),
+        }
+    }
+
+    /// Does a line that was handed in, and tells what became of it.
+    pub(crate) fn do_line(&mut self, line: &str) -> Result<Vec<u8>, ConnectFault> {
+        let (mut printed, mut told) = (Vec::new(self.alloc), Vec::new(self.alloc));
+        let mut output = Output::new(&mut printed);
+        let ended = self
+            .desk
+            .do_line(self.rt, line.as_bytes(), &mut output, &mut told)?;
+        drop(output);
+        let mut seen = self.hall.seen.lock(self.rt);
+        self.show_own(&mut seen, Some(line))?;
+        let status = status_of(ended);
+        let done = Done {
+            printed: &printed,
+            told: &told,
+            status,
+        };
+        Ok(done_text(self.alloc, &done)?)
+    }
+}
