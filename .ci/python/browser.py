@@ -65,6 +65,10 @@ class Page:
                 return told.get("result", told)
             self.events.append(told)
 
+    def front(self):
+        """Has it shown: what isn't is told so, and looks less often."""
+        self.call("Page.bringToFront")
+
     def js(self, text):
         """What the script gives, once it is there."""
         told = self.call("Runtime.evaluate", expression=text, awaitPromise=True, returnByValue=True)
@@ -76,6 +80,7 @@ class Page:
     def soon(self, text, seconds=SECONDS):
         """Whether the script gives something true in time."""
         over = time.monotonic() + seconds
+        self.front()
         while time.monotonic() < over:
             if self.js(text) is True:
                 return True
@@ -89,11 +94,13 @@ class Page:
         self.call("Emulation.setEmulatedMedia", features=[{"name": "prefers-color-scheme", "value": name}])
 
     def press(self, key, code):
-        for kind in ("keyDown", "keyUp"):
-            self.call("Input.dispatchKeyEvent", type=kind, key=key, code=key, windowsVirtualKeyCode=code)
+        text = {"text": "\r"} if key == "Enter" else {}
+        self.call("Input.dispatchKeyEvent", type="keyDown", key=key, code=key, windowsVirtualKeyCode=code, **text)
+        self.call("Input.dispatchKeyEvent", type="keyUp", key=key, code=key, windowsVirtualKeyCode=code)
 
     def shot(self, path, whole=True):
         """A picture of the page, in a file."""
+        self.front()
         if whole:
             height = self.js("document.documentElement.scrollHeight")
             width = self.js("innerWidth")
@@ -122,7 +129,8 @@ class Browser:
 
     def __init__(self):
         self.profile, self.port = tempfile.mkdtemp(), free_port()
-        self.process = subprocess.Popen([installed(), "--headless", "--no-sandbox", "--disable-gpu", "--hide-scrollbars", "--user-data-dir=" + self.profile,
+        self.process = subprocess.Popen([installed(), "--headless", "--no-sandbox", "--disable-gpu", "--hide-scrollbars", "--disable-background-timer-throttling",
+                                         "--disable-renderer-backgrounding", "--disable-backgrounding-occluded-windows", "--user-data-dir=" + self.profile,
                                          "--remote-debugging-port=%d" % self.port, "about:blank"],
                                         stdin=subprocess.DEVNULL, stdout=subprocess.DEVNULL, stderr=subprocess.DEVNULL)
 

@@ -62,8 +62,8 @@ def two(checks, program, folder):
         found = values(states[0])
         checks.that("two: each has a room", sorted(found[key][0] for key in (ROOM, "mon/10/blue")), ["kim", "lee"])
         winner = found[ROOM][0]
-        news = [[(notice["text"].split()[1], notice["line"]) for notice in state["notices"] if notice["line"] and "claim" in notice["line"]] for state in states]
-        checks.that("two: each is told that it is final", [bool(one) and one[-1][0] for one in news], ["final", "final"])
+        news = [[notice["text"].split()[1] for notice in state["notices"] if "claim" in (notice["line"] or "")] for state in states]
+        checks.that("two: each is told that it is final", [one[-1:] for one in news], [["final"], ["final"]])
         loser = states[1 if winner == "kim" else 0]
         checks.that("two: who fell back is told by which choice", loser["notices"][-1]["text"].split()[3:], ["merge", "1"])
         both = Web(program, store, path(folder, "max.state"), "max")
@@ -72,7 +72,8 @@ def two(checks, program, folder):
             tab.start()
         for tab in tabs:
             tab.join()
-        checks.that("two: lines of several tabs are done one by one, each once", values(both.looks(lambda state: values(state).get("tally", ("",))[0] == "3")).get("tally", ("",))[0], "3")
+        state = both.looks(lambda state: values(state).get("tally", ("",))[0] == "3")
+        checks.that("two: lines of several tabs are done one by one, each once", values(state).get("tally", ("",))[0], "3")
         both.end()
 
 

@@ -15,9 +15,18 @@ ODD = "<img src=x onerror=hit=1>\u202e"
 def cell(key):
     """A script that gives what stands in the cell of the key, and its kind."""
     day, hour, room = key.split("/")
-    return ("(()=>{const t=document.querySelector('#grid table');if(!t||!t.tHead)return null;const c=[...t.tHead.rows[0].cells].findIndex(x=>x.textContent==='%s');"
-            "const r=[...t.tBodies[0].rows].find(x=>x.cells[0].textContent==='%s');return r&&c>0?[r.cells[c].firstChild.textContent,r.cells[c].className].join():null})()"
-            % (room, hour))
+    return ("(()=>{const t=document.querySelector('#grid table');if(!t||!t.tHead)return null;"
+            "const c=[...t.tHead.rows[0].cells].findIndex(x=>x.textContent==='%s'),r=[...t.tBodies[0].rows].find(x=>x.cells[0].textContent==='%s');"
+            "return r&&c>0?[r.cells[c].firstChild.textContent,r.cells[c].className].join():null})()" % (room, hour))
+
+
+def button(key):
+    return "document.querySelector('[data-key=\"%s\"]')" % key
+
+
+def told(part, text):
+    """A script: whether this part of the page says that."""
+    return "document.getElementById('%s').textContent.includes('%s')" % (part, text)
 
 
 def opened(browser, web, rows=True):
@@ -51,30 +60,30 @@ def met(checks, browser, program, store, folder):
         store.part(1)
         time.sleep(1.5)
         # The one by the keyboard, the other by a click.
-        claim = "document.querySelector('[data-key=\"%s\"]')" % ROOM
-        checks.that("browser: a free place is a button with a name", pages[0].js(claim + ".getAttribute('aria-label')"), "claim mon 9 blue")
-        pages[0].js("document.querySelector('[data-key=\"mon/9/red\"]').focus()")
+        checks.that("browser: a free place is a button with a name", pages[0].js(button(ROOM) + ".getAttribute('aria-label')"), "claim mon 9 blue")
+        pages[0].js(button("mon/9/red") + ".focus()")
         pages[0].press("ArrowLeft", 37)
         checks.that("browser: an arrow goes to the next place", pages[0].js("document.activeElement.dataset.key"), ROOM)
         pages[0].press("Enter", 13)
-        pages[0].js("document.activeElement.click()") if pages[0].soon(cell(ROOM) + "==='kim,tentative'", 5) is not True else None
-        pages[1].js(claim + ".click()")
+        pages[1].js(button(ROOM) + ".click()")
         for page, name in zip(pages, ("kim", "lee")):
             checks.that("browser: %s sees an own claim, hatched" % name, page.soon(cell(ROOM) + "==='%s,tentative'" % name), True)
-            checks.that("browser: and among own Writes", page.soon("document.getElementById('own').textContent.includes('claim %s %s')" % (ROOM, name)), True)
+            checks.that("browser: and among own Writes", page.soon(told("own", "claim %s %s" % (ROOM, name))), True)
         pictures(checks, pages[0], "apart")
         store.part(0)
         for page in pages:
             checks.that("browser: once they met it is final", page.soon("(%s||'').endsWith(',final')" % cell(ROOM)), True)
         winners = [page.js(cell(ROOM)) for page in pages]
         checks.that("browser: both see the same", winners[0], winners[1])
-        loser, name = (pages[1], "lee") if winners[0].startswith("kim") else (pages[0], "kim")
-        checks.that("browser: who fell back is told, and who has the room", loser.soon("document.getElementById('news').textContent.includes('it came to nothing')"
-                    "&&document.getElementById('news').textContent.includes('%s is %s’s')" % (ROOM, winners[0].split(",")[0])), True)
+        loser = pages[1 if (winners[0] or "").startswith("kim") else 0]
+        winner = winners[0].split(",")[0]
+        checks.that("browser: who fell back is told", loser.soon(told("news", "it came to nothing")), True)
+        checks.that("browser: and who has the room", loser.soon(told("news", "%s is %s’s" % (ROOM, winner))), True)
         pictures(checks, loser, "met")
-        checks.that("browser: an own place is given back", loser.js("document.querySelector('[data-key=\"mon/10/%s\"]').textContent" % ("red" if name == "lee" else "blue")), "give back")
-        loser.js("document.querySelector('[data-key=\"mon/10/%s\"]').click()" % ("red" if name == "lee" else "blue"))
-        checks.that("browser: then it is free", loser.soon("(%s||'').startsWith('free')" % cell("mon/10/" + ("red" if name == "lee" else "blue"))), True)
+        mine = "mon/10/red" if winner == "kim" else "mon/10/blue"
+        checks.that("browser: an own place is given back", loser.js(button(mine) + ".textContent"), "give back")
+        loser.js(button(mine) + ".click()")
+        checks.that("browser: then it is free", loser.soon("(%s||'').startsWith('free')" % cell(mine)), True)
         second = opened(browser, kim)
         second.js("act('add tally 1')"), pages[0].js("act('add tally 1')")
         checks.that("browser: a second tab sees and does the same", second.soon("state.rows.some(r=>r.key==='tally'&&r.value==='2')"), True)
@@ -92,13 +101,15 @@ def odd(checks, browser, program, store, folder):
         page.js("tab='odd';draw_rows()")
         checks.that("browser: a value is shown as text", page.js("document.querySelector('#grid tbody td').firstChild.textContent"), ODD)
         checks.that("browser: and runs nothing", (page.js("hit"), page.js("document.images.length")), (0, 0))
-        page.js("document.body.insertAdjacentHTML('beforeend','<img src=x onerror=hit=1><a id=z onclick=hit=1>z</a><style>body{color:red}</style>');document.getElementById('z').click()")
+        page.js("document.body.insertAdjacentHTML('beforeend','<img src=x onerror=hit=1><a id=z onclick=hit=1>z</a><style>body{color:red}</style>');"
+                "document.getElementById('z').click()")
         time.sleep(0.3)
-        checks.that("browser: the policy refuses what comes in", (page.js("hit"), page.js("getComputedStyle(document.body).color==='rgb(255, 0, 0)'")), (0, False))
+        is_red = page.js("getComputedStyle(document.body).color==='rgb(255, 0, 0)'")
+        checks.that("browser: the policy refuses what comes in", (page.js("hit"), is_red), (0, False))
         checks.that("browser: and asks nothing elsewhere", page.js("fetch('http://127.0.0.1:%d/').then(()=>1,e=>'refused')" % store.ports[0]), "refused")
         stolen = browser.page()
         stolen.go(web.link.split("#")[0])
-        checks.that("browser: an address without its token shows nothing", stolen.soon("document.getElementById('bar').textContent.includes('token')"), True)
+        checks.that("browser: an address without its token shows nothing", stolen.soon(told("bar", "token")), True)
         checks.that("browser: no rows", stolen.js("document.querySelectorAll('#grid td').length"), 0)
         named = browser.page()
         named.go(web.link.replace("127.0.0.1", "localhost"))
@@ -111,12 +122,12 @@ def odd(checks, browser, program, store, folder):
         page.soon("typeof state!=='undefined'&&!!state&&state.rows.length>0")
         for index in range(3):
             store.stop(index)
-        checks.that("browser: servers that are away are told", page.soon("document.getElementById('bar').textContent.includes('No server answers')"), True)
+        checks.that("browser: servers that are away are told", page.soon(told("bar", "No server answers")), True)
         checks.that("browser: what was seen is shown, and nothing is claimed", (page.js("state.rows.length>0"),
                     page.js("[...document.querySelectorAll('#grid button')].every(b=>b.disabled)")), (True, True))
         pictures(checks, page, "away")
         web.end()
-        checks.that("browser: a program that ended is told", page.soon("document.getElementById('bar').textContent.includes('reached')"), True)
+        checks.that("browser: a program that ended is told", page.soon(told("bar", "reached")), True)
         for one in (page, stolen, named, other):
             one.close()
 
@@ -137,7 +148,8 @@ def picture(checks, program, folder):
     seen = Browser()
     try:
         seen.is_ready()
-        with Store(program, folder) as store, Web(program, store, path(folder, "kim.state")) as kim, Web(program, store, path(folder, "lee.state"), "lee") as lee:
+        with Store(program, folder) as store, Web(program, store, path(folder, "kim.state")) as kim, \
+                Web(program, store, path(folder, "lee.state"), "lee") as lee:
             for line in ("claim mon/9/blue kim", "claim mon/11/blue kim", "claim tue/9/blue kim"):
                 kim.do(line)
             for line in ("claim mon/10/red lee", "claim mon/14/green lee", "claim wed/9/red lee"):

@@ -1,8 +1,9 @@
 //! A person's page at a store, from the words to the exit status.
-ghost use Rattle.std.specs.Prelude.{◌≡◌, ◌⊎◌, IfErr, IfOk, MatchResult, option_map, string_bytes};
+ghost use Rattle.std.specs.Prelude.{◌≡◌, ◌⊎◌, ℕ, IfErr, IfOk, List, MatchResult, Option, option_map, string_bytes};
 ghost use Rattle.bayou_command.specs.Web.{web_seen};
 ghost use Rattle.bayou_shell.specs.Pages.{IsNamed, places_shown};
 ghost use Rattle.bayou_shell.specs.Plans.{IsPlanOfPlaces, RefusesConnection};
+ghost use Rattle.bayou_shell.specs.Told.{told_text};
 
 use crate::connected::{kept_name, kept_plan};
 use crate::keyed::{key_fault_line, named_key};
@@ -81,7 +82,9 @@ impl Window {
 }
 
 // The line that tells why no page is served any longer, with the file that is at fault, where one is.
-fn fault_line(alloc: Global, state: &str, fault: WebFault) -> Result<String, AllocError> {
+fn fault_line(alloc: Global, state: &str, fault: WebFault) -> Result<String, AllocError>
+    ensures { IfOk result (λ line. (file : Option (List ℕ)) × (cause : List ℕ) × (string_bytes line ≡ told_text file cause)) }
+{
     let cause = fault.to_string(alloc)?;
     let file = match fault {
         WebFault::Desk(fault) if fault.is_of_state() => Some(state),

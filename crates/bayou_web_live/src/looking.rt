@@ -1,11 +1,11 @@
 //! What is seen, as servers tell it.
 
-use bayou_base::{ServerId, Vector};
 use bayou_connect::{ConnectFault, Ended, OpenDesk, SeenRow, SeenRows};
 use bayou_net::Sockets;
+use bayou_session::Session;
 use bayou_streams::Output;
 use bayou_web_serve::Hall;
-use bayou_web_state::{Done, Row, Seen, SeenSession, ServerSeen, done_text};
+use bayou_web_state::{Done, OwnTold, Row, Seen, SeenSession, done_text};
 use std::alloc::{AllocError, Global};
 use std::fs::{File, Files};
 use std::str;
@@ -53,6 +53,15 @@ fn shown_rows(alloc: Global, rows: Vec<SeenRow>) -> Result<Vec<Row>, AllocError>
     Ok(shown)
 }
 
+fn shown_session(session: &Session) -> SeenSession {
+    let past = session.past();
+    SeenSession {
+        asks: session.asks(),
+        reads: past.reads,
+        writes: past.writes,
+    }
+}
+
 // Each line of a text is a notice.
 fn note_each(alloc: Global, seen: &mut Seen, text: &[u8]) -> Result<(), AllocError> {
     let text = str::from_utf8(text).unwrap_or("");
@@ -65,18 +74,15 @@ fn note_each(alloc: Global, seen: &mut Seen, text: &[u8]) -> Result<(), AllocErr
 impl<T: Files<File = File> + Sockets + Wait + Clock> Looking<'_, T> {
     // The session, as it is now, and the own Writes; the last of them was made by the line, if one is there.
     fn show_own(&self, seen: &mut Seen, line: Option<&str>) -> Result<(), AllocError> {
-        seen.own_now(self.alloc, self.desk.own(), line)?;
-        seen.session = match self.desk.session() {
-            None => None,
-            Some(session) => {
-                let past = session.past();
-                Some(SeenSession {
-                    asks: session.asks(),
-                    reads: past.reads,
-                    writes: past.writes,
-                })
-            }
-        };
+        let mut own = Vec::with_capacity(self.alloc, self.desk.own().len())?;
+        for write in self.desk.own() {
+            own.push(OwnTold {
+                wid: write.wid,
+                told: write.told,
+            })?;
+        }
+        seen.own_now(self.alloc, &own, line)?;
+        seen.session_now(self.desk.session().map(|session| shown_session(&session)));
         Ok(())
     }
 
@@ -98,12 +104,11 @@ impl<T: Files<File = File> + Sockets + Wait + Clock> Looking<'_, T> {
     // The rows that were told, if any were.
     fn show_rows(&self, seen: &mut Seen, rows: Option<SeenRows>) -> Result<(), AllocError> {
         let Some(told) = rows else {
-            seen.is_current = false;
+            seen.rows_untold();
             return Ok(());
         };
-        seen.rows = shown_rows(self.alloc, told.rows)?;
-        seen.told = Some((told.server, told.vector));
-        seen.is_current = true;
+        let rows = shown_rows(self.alloc, told.rows)?;
+        seen.rows_now(rows, told.server, told.vector);
         Ok(())
     }
 
@@ -111,22 +116,18 @@ impl<T: Files<File = File> + Sockets + Wait + Clock> Looking<'_, T> {
     pub(crate) fn look(&mut self) -> Result<(), ConnectFault> {
         let (mut news, mut told) = (Vec::new(self.alloc), Vec::new(self.alloc));
         let is_new = self.desk.look(self.rt, &mut Output::new(&mut news))?;
-        let is_current = self.hall.seen.lock(self.rt).is_current;
-        let rows = if is_new || !is_current {
-            Some(self.desk.rows(self.rt)?)
-        } else {
-            None
-        };
         self.desk.tell_strangers(&mut told)?;
-        let mut seen = self.hall.seen.lock(self.rt);
-        note_each(self.alloc, &mut seen, &told)?;
-        note_each(self.alloc, &mut seen, &news)?;
-        self.show_own(&mut seen, None)?;
-        self.show_servers(&mut seen)?;
-        match rows {
-            Some(rows) => Ok(self.show_rows(&mut seen, rows)?),
-            None => Ok(()),
+        if !is_new && told.is_empty() && self.hall.shown.lock(self.rt).is_current() {
+            return Ok(());
         }
+        let rows = self.desk.rows(self.rt)?;
+        let mut shown = self.hall.shown.lock(self.rt);
+        let seen = shown.changed();
+        note_each(self.alloc, seen, &told)?;
+        note_each(self.alloc, seen, &news)?;
+        self.show_own(seen, None)?;
+        self.show_servers(seen)?;
+        Ok(self.show_rows(seen, rows)?)
     }
 
     /// Does a line that was handed in, and tells what became of it.
@@ -137,8 +138,7 @@ impl<T: Files<File = File> + Sockets + Wait + Clock> Looking<'_, T> {
             .desk
             .do_line(self.rt, line.as_bytes(), &mut output, &mut told)?;
         drop(output);
-        let mut seen = self.hall.seen.lock(self.rt);
-        self.show_own(&mut seen, Some(line))?;
+        self.show_own(self.hall.shown.lock(self.rt).changed(), Some(line))?;
         let status = status_of(ended);
         let done = Done {
             printed: &printed,

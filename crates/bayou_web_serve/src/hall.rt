@@ -6,7 +6,7 @@ use crate::timed::milliseconds;
 use bayou_base::limits::MAX_LINE_BYTES;
 use bayou_net::{Attendant, Host};
 use bayou_web::{Desk, Site};
-use bayou_web_state::{Done, Seen, done_text, state_text};
+use bayou_web_state::{Done, Seen, done_text};
 use std::alloc::{AllocError, Global};
 use std::hash::RandomState;
 use std::net::TcpStream;
@@ -33,10 +33,51 @@ const REFUSED: u8 = 2;
 /// The status of every other fault.
 const FAILED: u8 = 3;
 
+/// What is seen, and the text that tells all of it, once it was spelled, as long as nothing changed.
+#[derive(Drop)]
+pub struct Shown {
+    seen: Seen,
+    text: Option<Vec<u8>>,
+}
+
+impl Shown {
+    /// Whether the rows were told as servers were asked last.
+    pub fn is_current(&self) -> bool
+        ensures { result ≡ self.now.seen.is_current }
+    {
+        self.seen.is_current()
+    }
+
+    /// What is seen, to be changed.
+    pub fn changed(&mut self) -> &mut Seen {
+        self.text = None;
+        &mut self.seen
+    }
+
+    // The text that tells all of it.
+    fn whole(&mut self, alloc: Global) -> Result<Vec<u8>, AllocError> {
+        if let Some(text) = &self.text {
+            return Vec::from_slice(alloc, text);
+        }
+        let text = self.seen.text(alloc, "")?;
+        self.text = Some(Vec::from_slice(alloc, &text)?);
+        Ok(text)
+    }
+
+    // The text that tells what is seen of the keys that begin so.
+    fn text(&mut self, alloc: Global, prefix: &str) -> Result<Vec<u8>, AllocError> {
+        if prefix.is_empty() {
+            self.whole(alloc)
+        } else {
+            self.seen.text(alloc, prefix)
+        }
+    }
+}
+
 /// What the threads that serve connections share with the one that has the desk.
 #[derive(Drop)]
 pub struct Hall {
-    pub seen: Mutex<Seen>,
+    pub shown: Mutex<Shown>,
     pub counter: Counter,
     /// When it was looked at last, in milliseconds of the clock.
     pub looked: AtomicU64,
@@ -57,7 +98,7 @@ impl Hall {
     /// What is seen, before anybody looked.
     pub fn new(seen: Seen) -> Self {
         Hall {
-            seen: Mutex::new(seen),
+            shown: Mutex::new(Shown { seen, text: None }),
             counter: Counter::new(),
             looked: AtomicU64::new(0),
             stop: AtomicBool::new(false),
@@ -101,8 +142,7 @@ impl<T: Wait + Clock> Desk for AtCounter<'_, T> {
         self.hall
             .looked
             .store(milliseconds(self.rt), Ordering::SeqCst);
-        let seen = self.hall.seen.lock(self.rt);
-        state_text(alloc, &seen, prefix)
+        self.hall.shown.lock(self.rt).text(alloc, prefix)
     }
 
     fn act(&mut self, alloc: Global, line: &str) -> Result<Vec<u8>, AllocError> {

@@ -14,7 +14,7 @@ pub mod serving;
 pub mod timed;
 
 pub use counter::{Counter, NotDone};
-pub use hall::{AtCounter, Hall, Reception};
+pub use hall::{AtCounter, Hall, Reception, Shown};
 pub use page::{Page, PageFault};
 pub use serving::{Habits, serve_over, serve_site, serve_stream};
 pub use timed::{Limit, Timed, milliseconds};

@@ -18,7 +18,7 @@ pub struct Done<'a> {
 
 // The lines of a text, as an array. What is no text is told as far as it is one.
 fn put_lines(out: &mut Writer, text: &[u8]) -> Result<(), AllocError>
-    ensures before { out.new.before ≡ out.old.before }
+    ensures { out.new.before ≡ out.old.before }
 {
     out.begin_array()?;
     let text = str::from_utf8(text).unwrap_or("");

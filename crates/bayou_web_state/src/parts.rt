@@ -4,7 +4,6 @@ ghost use Rattle.bayou_base.specs.declared.limits.TheConstants.{SERVERS as NUMBE
 
 use crate::seen::{Notice, Own, SeenSession, ServerSeen};
 use bayou_base::{Asks, ServerId, Vector};
-use bayou_outlook::OwnWrite;
 use bayou_wire::Became;
 use json::Writer;
 use std::alloc::{AllocError, Global};
@@ -12,7 +11,7 @@ use std::alloc::{AllocError, Global};
 /// The first counts of a vector, as an array.
 pub(crate) fn put_vector(out: &mut Writer, vector: &Vector, servers: u8) -> Result<(), AllocError>
     requires { servers ≤ NUMBER }
-    ensures before { out.new.before ≡ out.old.before }
+    ensures { out.new.before ≡ out.old.before }
 {
     out.begin_array()?;
     for index in 0..servers {
@@ -23,7 +22,7 @@ pub(crate) fn put_vector(out: &mut Writer, vector: &Vector, servers: u8) -> Resu
 
 /// A text, or null.
 pub(crate) fn put_text(out: &mut Writer, text: Option<&str>) -> Result<(), AllocError>
-    ensures before { out.new.before ≡ out.old.before }
+    ensures { out.new.before ≡ out.old.before }
 {
     match text {
         Some(text) => out.string(text),
@@ -39,7 +38,7 @@ fn put_server(
     servers: u8,
 ) -> Result<(), AllocError>
     requires { servers ≤ NUMBER }
-    ensures before { out.new.before ≡ out.old.before }
+    ensures { out.new.before ≡ out.old.before }
 {
     out.begin_object()?;
     out.key("id")?;
@@ -70,7 +69,7 @@ pub(crate) fn put_servers(
     servers: u8,
 ) -> Result<(), AllocError>
     requires { servers ≤ NUMBER }
-    ensures before { out.new.before ≡ out.old.before }
+    ensures { out.new.before ≡ out.old.before }
 {
     out.begin_array()?;
     for server in all {
@@ -80,8 +79,8 @@ pub(crate) fn put_servers(
 }
 
 // What became of an own Write as it was told last: its update, an alternative of its merge procedure, or nothing.
-fn told_text(alloc: Global, write: &OwnWrite) -> Result<String, AllocError> {
-    match write.told {
+fn told_text(alloc: Global, told: Option<Became>) -> Result<String, AllocError> {
+    match told {
         None => String::from_str(alloc, "untold"),
         Some(Became::Updated) => String::from_str(alloc, "update"),
         Some(Became::Merged(alternative)) => format!(in alloc; "merge {alternative}"),
@@ -91,11 +90,11 @@ fn told_text(alloc: Global, write: &OwnWrite) -> Result<String, AllocError> {
 
 // An own Write: `{"write":"0:5","told":"update","line":"claim mon/9/blue kim"}`.
 fn put_own(out: &mut Writer, alloc: Global, own: &Own) -> Result<(), AllocError>
-    ensures before { out.new.before ≡ out.old.before }
+    ensures { out.new.before ≡ out.old.before }
 {
     let (origin, seq) = (own.write.wid.origin.index, own.write.wid.seq);
     let name = format!(in alloc; "{origin}:{seq}")?;
-    let told = told_text(alloc, &own.write)?;
+    let told = told_text(alloc, own.write.told)?;
     out.begin_object()?;
     out.key("write")?;
     out.string(name.as_str())?;
@@ -108,7 +107,7 @@ fn put_own(out: &mut Writer, alloc: Global, own: &Own) -> Result<(), AllocError>
 
 /// Each own Write.
 pub(crate) fn put_all_own(out: &mut Writer, alloc: Global, all: &[Own]) -> Result<(), AllocError>
-    ensures before { out.new.before ≡ out.old.before }
+    ensures { out.new.before ≡ out.old.before }
 {
     out.begin_array()?;
     for own in all {
@@ -119,7 +118,7 @@ pub(crate) fn put_all_own(out: &mut Writer, alloc: Global, all: &[Own]) -> Resul
 
 // The guarantees that are asked for, by their names.
 fn put_asks(out: &mut Writer, asks: Asks) -> Result<(), AllocError>
-    ensures before { out.new.before ≡ out.old.before }
+    ensures { out.new.before ≡ out.old.before }
 {
     out.begin_array()?;
     if asks.ryw {
@@ -144,7 +143,7 @@ pub(crate) fn put_session(
     servers: u8,
 ) -> Result<(), AllocError>
     requires { servers ≤ NUMBER }
-    ensures before { out.new.before ≡ out.old.before }
+    ensures { out.new.before ≡ out.old.before }
 {
     let Some(session) = session else {
         return out.null();
@@ -161,7 +160,7 @@ pub(crate) fn put_session(
 
 /// Each notice: `{"number":1,"text":"0 changed 0:5 none"}`.
 pub(crate) fn put_notices(out: &mut Writer, notices: &[Notice]) -> Result<(), AllocError>
-    ensures before { out.new.before ≡ out.old.before }
+    ensures { out.new.before ≡ out.old.before }
 {
     out.begin_array()?;
     for notice in notices {

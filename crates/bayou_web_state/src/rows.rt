@@ -1,8 +1,8 @@
 //! The rows that are asked for, as JSON.
 ghost use Rattle.std.specs.Prelude.{◌≡◌, ◌++◌, ◌∷◌, [], OnOk};
-ghost use Rattle.bayou_web_state.specs.Rows.{begins_with as begins, row_tokens, rows_tokens, standing_token, value_tokens};
+ghost use Rattle.bayou_web_state.specs.Rows.{asked_tokens, begins_with as begins, row_tokens, rows_tokens, standing_token, value_tokens};
 
-use crate::seen::Row;
+use crate::row::Row;
 use bayou_base::{Key, Value};
 use bayou_final::Standing;
 use json::Writer;
@@ -62,7 +62,7 @@ fn put_row(out: &mut Writer, row: &Row) -> Result<(), AllocError>
 
 // The row, if its key begins so.
 fn put_if_asked(out: &mut Writer, prefix: &str, row: &Row) -> Result<(), AllocError>
-    ensures put { OnOk result (out.new.tokens ≡ out.old.tokens ++ rows_tokens prefix.now (row.now ∷ [])) }
+    ensures put { OnOk result (out.new.tokens ≡ out.old.tokens ++ asked_tokens prefix.now row.now) }
     ensures before { out.new.before ≡ out.old.before }
 {
     if begins_with(&row.key, prefix) {

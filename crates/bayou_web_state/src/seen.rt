@@ -1,25 +1,20 @@
 //! What is seen of a store.
-ghost use Rattle.std.specs.Prelude.{◌≡◌, ◌≤◌, [], OnOk, map};
+ghost use Rattle.std.specs.Prelude.{◌≡◌, ◌≤◌, [], false, true, IfOk, OnOk, Some, map};
+ghost use Rattle.bayou_web_state.specs.Rows.{Spells};
 ghost use Rattle.bayou_web_state.specs.declared.seen.Own.{Own as OwnOne};
 ghost use Rattle.bayou_base.specs.declared.limits.TheConstants.{SERVERS as NUMBER};
 
-use bayou_base::{Asks, Key, ServerId, Value, Vector, Wid};
-use bayou_final::Standing;
-use bayou_outlook::OwnWrite;
+use crate::parts::{put_all_own, put_notices, put_servers, put_session, put_text, put_vector};
+use crate::row::Row;
+use crate::rows::put_rows;
+use bayou_base::{Asks, ServerId, Vector, Wid};
+use bayou_wire::Became;
+use json::Writer;
 use std::alloc::{AllocError, Global};
 use std::net::SocketAddr;
 
 /// How many notices are kept at the most. One more, and the oldest goes.
 const MAX_NOTICES: usize = 64;
-
-/// A key that has a value, with that.
-#[derive(Debug, Drop)]
-pub struct Row {
-    pub key: Key,
-    pub value: Value,
-    /// How the value stands; `None` where that isn't known.
-    pub standing: Option<Standing>,
-}
 
 /// A server, as it was asked last.
 #[derive(Clone, Copy, Debug)]
@@ -55,10 +50,17 @@ fn kept_text(alloc: Global, text: Option<&str>) -> Result<Option<String>, AllocE
     }
 }
 
-/// An own Write that wasn't told as final yet, and the line that made it, where that is known.
+/// An own Write that wasn't told as final yet, and what it was told to have become last, if it was.
+#[derive(Clone, Copy, Debug, PartialEq, Eq)]
+pub struct OwnTold {
+    pub wid: Wid,
+    pub told: Option<Became>,
+}
+
+/// The same, and the line that made it, where that is known.
 #[derive(Debug, Drop)]
 pub struct Own {
-    pub write: OwnWrite,
+    pub write: OwnTold,
     pub line: Option<String>,
 }
 
@@ -84,28 +86,28 @@ pub struct SeenSession {
 #[derive(Drop)]
 pub struct Seen {
     /// How many counts of a vector are told.
-    pub servers_number: u8,
+    servers_number: u8,
     /// As whom the person claims.
-    pub name: Option<String>,
-    pub rows: Vec<Row>,
+    name: Option<String>,
+    rows: Vec<Row>,
     /// Which server told the rows, and what it held.
-    pub told: Option<(ServerId, Vector)>,
+    told: Option<(ServerId, Vector)>,
     /// Whether the rows were told as servers were asked last.
-    pub is_current: bool,
-    pub servers: Vec<ServerSeen>,
-    pub own: Vec<Own>,
-    pub session: Option<SeenSession>,
-    pub notices: Vec<Notice>,
+    is_current: bool,
+    servers: Vec<ServerSeen>,
+    own: Vec<Own>,
+    session: Option<SeenSession>,
+    notices: Vec<Notice>,
     /// How many notices there were.
-    pub noticed: u64,
-    pub ghost number: { servers_number ≤ NUMBER },
+    noticed: u64,
+    ghost number: { servers_number ≤ NUMBER },
 }
 
 impl Seen {
     /// Nothing was seen yet.
     pub fn new(alloc: Global, servers_number: u8, name: Option<String>) -> Self
         requires { servers_number ≤ NUMBER }
-        ensures { (result.servers_number ≡ servers_number) × (result.rows.items ≡ []) × (result.notices.items ≡ []) }
+        ensures { (result.servers_number ≡ servers_number) × (result.rows.items ≡ []) × (result.notices.items ≡ []) × (result.is_current ≡ false) }
     {
         Seen {
             servers_number,
@@ -121,6 +123,36 @@ impl Seen {
         }
     }
 
+    /// Whether the rows were told as servers were asked last.
+    pub fn is_current(&self) -> bool
+        ensures { result ≡ self.now.is_current }
+    {
+        self.is_current
+    }
+
+    /// These are the rows now, which the server told that held this.
+    pub fn rows_now(&mut self, rows: Vec<Row>, server: ServerId, vector: Vector)
+        ensures { self.new ≡ record self.old { rows = rows; told = Some (server, vector); is_current = true } }
+    {
+        self.rows = rows;
+        self.told = Some((server, vector));
+        self.is_current = true;
+    }
+
+    /// No server told the rows as they were asked last. What was seen before stays.
+    pub fn rows_untold(&mut self)
+        ensures { self.new ≡ record self.old { is_current = false } }
+    {
+        self.is_current = false;
+    }
+
+    /// This is the session now.
+    pub fn session_now(&mut self, session: Option<SeenSession>)
+        ensures { self.new ≡ record self.old { session = session } }
+    {
+        self.session = session;
+    }
+
     // The line that made the own Write of this name, where that is known.
     fn line_of(&self, wid: Wid) -> Option<&str> {
         let own = self.own.iter().find(|own| own.write.wid == wid)?;
@@ -131,11 +163,11 @@ impl Seen {
     pub fn own_now(
         &mut self,
         alloc: Global,
-        own: &[OwnWrite],
+        own: &[OwnTold],
         line: Option<&str>,
     ) -> Result<(), AllocError>
         ensures own { OnOk result (map (λ (one : OwnOne). one.write) self.new.own.items ≡ own.now) }
-        ensures same { self.new.rows ≡ self.old.rows }
+        ensures same { (self.new.rows ≡ self.old.rows) × (self.new.is_current ≡ self.old.is_current) }
     {
         let mut now = Vec::with_capacity(alloc, own.len())?;
         for write in own {
@@ -157,7 +189,7 @@ impl Seen {
         view: Option<Vector>,
         limit: Option<u32>,
     ) -> Result<(), AllocError>
-        ensures same { (self.new.rows ≡ self.old.rows) × (self.new.own ≡ self.old.own) }
+        ensures same { (self.new.rows ≡ self.old.rows) × (self.new.own ≡ self.old.own) × (self.new.is_current ≡ self.old.is_current) }
     {
         let now = ServerSeen {
             id,
@@ -194,7 +226,7 @@ impl Seen {
 
     /// One more notice, the last of so many.
     pub fn note(&mut self, alloc: Global, text: &str) -> Result<(), AllocError>
-        ensures same { (self.new.rows ≡ self.old.rows) × (self.new.own ≡ self.old.own) }
+        ensures same { (self.new.rows ≡ self.old.rows) × (self.new.own ≡ self.old.own) × (self.new.is_current ≡ self.old.is_current) }
     {
         let line = self.line_named(alloc, text)?;
         let text = text.to_string(alloc)?;
@@ -205,5 +237,55 @@ impl Seen {
         let number = self.noticed;
         self.notices.push(Notice { number, text, line })?;
         Ok(())
+    }
+
+    // As whom the person claims, and of what the rows are.
+    fn put_head(&self, out: &mut Writer) -> Result<(), AllocError>
+        ensures { out.new.before ≡ out.old.before }
+    {
+        out.key("name")?;
+        put_text(out, self.name.as_deref())?;
+        out.key("current")?;
+        out.boolean(self.is_current)?;
+        out.key("server")?;
+        match &self.told {
+            Some((server, _)) => out.u64(u64::from(server.index))?,
+            None => out.null()?,
+        }
+        out.key("at")?;
+        match &self.told {
+            Some((_, vector)) => put_vector(out, vector, self.servers_number),
+            None => out.null(),
+        }
+    }
+
+    // What is told behind the rows.
+    fn put_rest(&self, out: &mut Writer, alloc: Global) -> Result<(), AllocError>
+        ensures { out.new.before ≡ out.old.before }
+    {
+        out.key("servers")?;
+        put_servers(out, alloc, &self.servers, self.servers_number)?;
+        out.key("own")?;
+        put_all_own(out, alloc, &self.own)?;
+        out.key("session")?;
+        put_session(out, &self.session, self.servers_number)?;
+        out.key("notices")?;
+        put_notices(out, &self.notices)
+    }
+
+    /// The text of JSON that tells what is seen, with the rows whose keys begin so.
+    pub fn text(&self, alloc: Global, prefix: &str) -> Result<Vec<u8>, AllocError>
+        ensures { IfOk result (λ text. Spells prefix.now self.now.rows.items text.items) }
+    {
+        let mut out = Writer::new(Vec::new(alloc));
+        out.begin_object()?;
+        self.put_head(&mut out)?;
+        out.key("rows")?;
+        out.begin_array()?;
+        put_rows(&mut out, prefix, &self.rows)?;
+        out.end_array()?;
+        self.put_rest(&mut out, alloc)?;
+        out.end_object()?;
+        Ok(out.into_inner())
     }
 }
