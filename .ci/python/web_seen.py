@@ -99,7 +99,7 @@ def odd(checks, browser, program, store, folder):
         page.js("window.hit=0;act('put odd/9/x '+%r)" % ('"%s"' % ODD))
         page.soon("state.rows.some(r=>r.key==='odd/9/x')")
         page.js("tab='odd';draw_rows()")
-        checks.that("browser: a value is shown as text", page.js("document.querySelector('#grid tbody td').firstChild.textContent"), ODD)
+        checks.that("browser: a value is shown as text", page.js("document.querySelector('#grid td.tentative,#grid td.final').firstChild.textContent"), ODD)
         checks.that("browser: and runs nothing", (page.js("hit"), page.js("document.images.length")), (0, 0))
         page.js("document.body.insertAdjacentHTML('beforeend','<img src=x onerror=hit=1><a id=z onclick=hit=1>z</a><style>body{color:red}</style>');"
                 "document.getElementById('z').click()")
@@ -115,9 +115,9 @@ def odd(checks, browser, program, store, folder):
         named.go(web.link.replace("127.0.0.1", "localhost"))
         checks.that("browser: another name shows no page", named.soon("document.body.textContent.includes('Open the address')"), True)
         other = browser.page()
-        other.go("data:text/html,<iframe src='%s'></iframe>" % web.link)
-        time.sleep(0.5)
-        checks.that("browser: it is framed by nobody", other.js("document.querySelector('iframe').contentDocument===null"), True)
+        other.go("data:text/html,<iframe src='%s'></iframe>" % web.link.split("#")[0])
+        time.sleep(1)
+        checks.that("browser: it is framed by nobody", any("frame-ancestors" in text for text in other.complaints()), True)
         page.js("location.reload()")
         page.soon("typeof state!=='undefined'&&!!state&&state.rows.length>0")
         for index in range(3):

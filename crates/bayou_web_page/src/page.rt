@@ -192,8 +192,7 @@ function cell(key, row, named) {
 function back_line(key) { return JSON.stringify(['write', 0, state.server, { check: [['equals', key, state.name]], update: [['del', key]] }]); }
 
 function grid(name, cells, tables) {
-  const lines = [...new Set(cells.map(c => c.line))].sort(by_number);
-  const columns = [...new Set([...tables.values()].flat().map(c => c.column))].sort(by_number).filter(column => cells.some(c => c.column === column) || columns_shared(tables));
+  const { lines, columns } = sides(cells, tables);
   const found = new Map(cells.map(c => [c.line + '/' + c.column, c.row]));
   const table = el('table', null, 'table'), head = el('tr'), body = el('tbody'), top = el('thead');
   table.append(el('caption', name + ', at server ' + state.server));
@@ -208,8 +207,13 @@ function grid(name, cells, tables) {
   return table;
 }
 
-// Few columns are the same for each table, as the rooms of each day are; many are a table's own.
-function columns_shared(tables) { return new Set([...tables.values()].flat().map(c => c.column)).size <= 24; }
+// Rows and columns are those of all tables that have a column of this one, as rooms and hours are the same each day; but its own alone, where those are many.
+function sides(cells, tables) {
+  const own = new Set(cells.map(c => c.column));
+  const alike = [...tables.values()].filter(others => others.some(c => own.has(c.column))).flat();
+  const few = (name, most) => { const all = [...new Set(alike.map(c => c[name]))]; return (all.length <= most ? all : [...new Set(cells.map(c => c[name]))]).sort(by_number); };
+  return { lines: few('line', 48), columns: few('column', 24) };
+}
 
 function list(rows) {
   const table = el('table'), top = el('thead'), body = el('tbody'), head = el('tr');
@@ -236,25 +240,30 @@ function did(told, line) {
 
 function draw_own() {
   at('own').replaceChildren(...(state.own.length ? state.own.map(own => {
-    const li = el('li', said(own.line)); li.append(el('br'), el('small', own.write + ': ' + did(own.told, own.line) + ', tentative')); return li;
+    const li = el('li'); li.append(quoted(said(own.line)), el('br'), el('small', own.write + ': ' + did(own.told, own.line) + ', tentative')); return li;
   }) : [el('li', 'none', 'soft')]));
 }
+
+// A text of somebody else's, which turns no text around it.
+const quoted = text => el('bdi', text);
 
 // Who has the first key that a line claims.
 function holder(line) {
   const words = (line || '').split(' ');
-  if (words[0] !== 'claim') return '';
+  if (words[0] !== 'claim') return [];
   const row = state.rows.find(row => row.key === words[1]);
-  return row && row.value !== state.name ? '; ' + words[1] + ' is ' + value_of(row) + '’s' : '';
+  return row && row.value !== state.name ? ['; ' + words[1] + ' is ', quoted(value_of(row)), '’s'] : [];
 }
 
-function news_text(notice) {
-  const words = notice.text.split(' '), what = said(notice.line), now = words.slice(3).join(' '), before = now === 'none' ? holder(notice.line) : '';
-  if (words[1] === 'final') return what + ': ' + did(now, notice.line) + ', final' + before;
-  if (words[1] === 'changed') return what + ' fell back: ' + did(now, notice.line) + ', tentative' + before;
-  if (words[1] === 'tentative') return what + ': ' + did(now, notice.line) + ', tentative' + before;
-  if (words[1] === 'forgot') return what + ' isn’t followed any longer';
-  return notice.text;
+function news_item(notice) {
+  const words = notice.text.split(' '), now = words.slice(3).join(' '), before = now === 'none' ? holder(notice.line) : [], li = el('li');
+  const say = (...parts) => { li.append(quoted(said(notice.line)), ...parts); return li; };
+  if (words[1] === 'final') return say(': ' + did(now, notice.line) + ', final', ...before);
+  if (words[1] === 'changed') return say(' fell back: ' + did(now, notice.line) + ', tentative', ...before);
+  if (words[1] === 'tentative') return say(': ' + did(now, notice.line) + ', tentative', ...before);
+  if (words[1] === 'forgot') return say(' isn’t followed any longer');
+  li.append(quoted(notice.text));
+  return li;
 }
 
 function draw_news() {
@@ -263,7 +272,7 @@ function draw_news() {
   if (!state.notices.length) at('news').replaceChildren(el('li', 'none', 'soft'));
   else {
     if (heard === 0) at('news').replaceChildren();
-    for (const notice of state.notices.filter(n => n.number > heard)) at('news').prepend(el('li', news_text(notice)));
+    for (const notice of state.notices.filter(n => n.number > heard)) at('news').prepend(news_item(notice));
     while (at('news').children.length > 20) at('news').lastChild.remove();
   }
   heard = last;
@@ -331,4 +340,4 @@ load();
 
 /// Its script and its style may run, and nothing else: they are told by their SHA-256.
 pub const POLICY: &str =
-    "default-src 'none'; script-src 'sha256-IsaaR7OSRY3YPWqyu5hEbNOhA2bCfsvexaSekQW5bgQ='; style-src 'sha256-t912tQ06t4SHlLENfWkYgNVX/FQOeWBnKx3QarC6Kmc='; connect-src 'self'; base-uri 'none'; form-action 'none'; frame-ancestors 'none'";
+    "default-src 'none'; script-src 'sha256-oioFfmJ/3HdLD1VTNVFzlZxhGgpcSHq9IhbyFyQ8i0M='; style-src 'sha256-t912tQ06t4SHlLENfWkYgNVX/FQOeWBnKx3QarC6Kmc='; connect-src 'self'; base-uri 'none'; form-action 'none'; frame-ancestors 'none'";
