@@ -1,6 +1,7 @@
 //! What is seen of a store.
-ghost use Rattle.std.specs.Prelude.{◌≡◌, ◌≤◌, [], false, true, IfOk, OnOk, Some, map};
-ghost use Rattle.bayou_web_state.specs.Rows.{Spells};
+ghost use Rattle.std.specs.Prelude.{◌≡◌, ◌≤◌, ◌++◌, ◌∷◌, [], false, true, IfOk, List, OnOk, Some, map};
+ghost use Rattle.json.specs.Token.{Token, end_array, end_object};
+ghost use Rattle.bayou_web_state.specs.Rows.{Spells, rows_tokens};
 ghost use Rattle.bayou_web_state.specs.declared.seen.Own.{Own as OwnOne};
 ghost use Rattle.bayou_base.specs.declared.limits.TheConstants.{SERVERS as NUMBER};
 
@@ -259,7 +260,7 @@ impl Seen {
         }
     }
 
-    // What is told behind the rows.
+    // What is told beside the rows.
     fn put_rest(&self, out: &mut Writer, alloc: Global) -> Result<(), AllocError>
         ensures { out.new.before ≡ out.old.before }
     {
@@ -273,19 +274,27 @@ impl Seen {
         put_notices(out, &self.notices)
     }
 
+    // What is seen, with the rows whose keys begin so at its end.
+    fn put_all(&self, out: &mut Writer, alloc: Global, prefix: &str) -> Result<(), AllocError>
+        ensures put { OnOk result ((head : List Token) × (out.new.tokens ≡ head ++ (rows_tokens prefix.now self.now.rows.items ++ end_array ∷ end_object ∷ []))) }
+        ensures before { out.new.before ≡ out.old.before }
+    {
+        out.begin_object()?;
+        self.put_head(out)?;
+        self.put_rest(out, alloc)?;
+        out.key("rows")?;
+        out.begin_array()?;
+        put_rows(out, prefix, &self.rows)?;
+        out.end_array()?;
+        out.end_object()
+    }
+
     /// The text of JSON that tells what is seen, with the rows whose keys begin so.
     pub fn text(&self, alloc: Global, prefix: &str) -> Result<Vec<u8>, AllocError>
         ensures { IfOk result (λ text. Spells prefix.now self.now.rows.items text.items) }
     {
         let mut out = Writer::new(Vec::new(alloc));
-        out.begin_object()?;
-        self.put_head(&mut out)?;
-        out.key("rows")?;
-        out.begin_array()?;
-        put_rows(&mut out, prefix, &self.rows)?;
-        out.end_array()?;
-        self.put_rest(&mut out, alloc)?;
-        out.end_object()?;
+        self.put_all(&mut out, alloc, prefix)?;
         Ok(out.into_inner())
     }
 }

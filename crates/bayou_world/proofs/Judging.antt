@@ -42,7 +42,7 @@ all_of_contained : {X : Type 0} (P : X → Type 0) (xs : List X) → ((x : X) �
 all_of_contained P xs each k d within = each _ (k, within, get_or_default xs k _ d within)
 
 -- those before a place stand before it
-all_before : {X : Type 0} (R : X → X → Type 0) (xs : List X) (at : ℕ) (x : X) → AllPairs R xs → slice_get xs at ≡ Some x → All (λ y. R y x) (take at xs)
+pub all_before : {X : Type 0} (R : X → X → Type 0) (xs : List X) (at : ℕ) (x : X) → AllPairs R xs → slice_get xs at ≡ Some x → All (λ y. R y x) (take at xs)
 all_before R xs at x pairs got k d within =
     let inside = slice_get_within xs at x got in
     let less : k < at = omega (arith, within, length-take at xs) in
@@ -52,7 +52,7 @@ all_before R xs at x pairs got k d within =
 
 module _ (machine : Machine) (count : ℕ) (asks : ℕ → Option Asks) (good : IsGoodMachine machine) (is : IsToldMachine count asks machine) (dumps : List (List Write)) (are : AreDumpsOf machine dumps) where
   -- each server's dump is what it holds, also beyond the last
-  dump_is : (place : ℕ) → dump_of dumps place ≡ writes (machine.servers place).held
+  pub dump_is : (place : ℕ) → dump_of dumps place ≡ writes (machine.servers place).held
   dump_is place = elim (cases_lt place machine.count) as (λ _. dump_of dumps place ≡ writes (machine.servers place).held) [
     | inl known ↦ are.each place known
     | inr beyond ↦
@@ -75,7 +75,7 @@ module _ (machine : Machine) (count : ℕ) (asks : ℕ → Option Asks) (good : 
   sound_dump : (place : ℕ) → IsSound place machine.count (dump_of dumps place)
   sound_dump place = subst (IsSound place machine.count) (sym (dump_is place)) (good.servers place).sound
 
-  dumps_are_good : AreGood machine.count dumps
+  pub dumps_are_good : AreGood machine.count dumps
   dumps_are_good server at write got =
       let dump = dump_of dumps server in
       let split = split_slice dump at write got in
@@ -111,7 +111,7 @@ module _ (machine : Machine) (count : ℕ) (asks : ℕ → Option Asks) (good : 
   home_of_told whats.Refused place answered made accepted was = let none : None ≡ Some made = sym was ∙ accepted in absurd (cc)
 
   -- what an entry tells of is true, behind entries that tell of other Writes
-  tells_true : (earlier : List Entry) (answered : Answered) → ((name : _) → TellsOf name answered.entry.what → All (λ entry. ¬ TellsOf name entry.what) earlier)
+  pub tells_true : (earlier : List Entry) (answered : Answered) → ((name : _) → TellsOf name answered.entry.what → All (λ entry. ¬ TellsOf name entry.what) earlier)
       → (what : What) → answered.entry.what ≡ what → WasSo machine.servers what answered.entry.server.index answered → IsToldBy what answered.entry.server.index answered.made
       → IsTrueOf (dump_of dumps answered.entry.server.index) answered.entry.server earlier what
   tells_true earlier answered others (whats.Read key vector) same was told =

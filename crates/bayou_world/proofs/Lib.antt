@@ -9,6 +9,8 @@ pub mod Starting
 pub mod Keeping
 pub mod Telling
 pub mod Judging
+pub mod Entering
+pub mod JudgingBooks
 pub mod Consistent
 pub mod Tagging
 pub mod Running

@@ -467,7 +467,7 @@ restart_told count asks old place reply new is (RestartStep.restarted adopted se
     (server_told count asks old is place server
     (remembers_recovery count place (old.servers place) adopted server (known_server count asks old is place known) recovers (is.servers place)))
 
-step_told : (count : ℕ) (asks : ℕ → Option Asks) (old : Machine) (event : Event) (reply : Reply) (new : Machine) → IsGoodMachine old → AreTagged old → IsToldMachine count asks old → Step old event reply new → IsToldMachine count asks new
+pub step_told : (count : ℕ) (asks : ℕ → Option Asks) (old : Machine) (event : Event) (reply : Reply) (new : Machine) → IsGoodMachine old → AreTagged old → IsToldMachine count asks old → Step old event reply new → IsToldMachine count asks new
 step_told count asks old (events.Read session server key) reply new good tagged is step = read_told count asks old session.index server.index key reply new is step
 step_told count asks old (events.Write session server program) reply new good tagged is step = write_told count asks old session.index server.index program reply new good is step
 step_told count asks old (events.Again session) reply new good tagged is step = again_told count asks old session.index reply new good tagged is step
@@ -501,7 +501,7 @@ first_flight (Some asks) session answered is flies =
     let one : new_session asks ≡ session = cc in
     let none : None ≡ Some answered = ap (λ (s : SessionSets). s.flight) one ∙ flies in absurd (cc)
 
-first_told : (count limit capacity : ℕ) (asks : ℕ → Option Asks) → IsToldMachine count asks (first_machine count limit capacity asks)
+pub first_told : (count limit capacity : ℕ) (asks : ℕ → Option Asks) → IsToldMachine count asks (first_machine count limit capacity asks)
 first_told count limit capacity asks = record {
   count_is = refl;
   servers = λ place. record {

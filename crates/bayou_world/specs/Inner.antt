@@ -2,6 +2,7 @@ pub mod Good
 pub mod Told
 pub mod WorldServers
 pub mod Charges
+pub mod Entered
 pub mod WorldSessions
 pub mod Tie
 pub mod WorldBooks

@@ -1,5 +1,5 @@
 //! What is true of every run: each law is the contract of a function that does nothing.
-ghost use Rattle.std.specs.Prelude.{◌≡◌, ◌≢◌, ◌<◌, ◌≤◌, ◌+◌, ◌++◌, ℕ, List, Option, None, Some, Result, Ok, Err, true, All, Contains, length, max, slice_get, slice_index};
+ghost use Rattle.std.specs.Prelude.{◌≡◌, ◌≢◌, ◌<◌, ◌≤◌, ◌+◌, ◌++◌, ℕ, List, [], Option, None, Some, Result, Ok, Err, true, All, Contains, length, max, slice_get, slice_index};
 ghost use Rattle.bayou_base.specs.declared.answer.Seen.{Seen};
 ghost use Rattle.bayou_base.specs.declared.asks.Asks.{Asks};
 ghost use Rattle.bayou_base.specs.declared.limits.TheConstants.{MAX_NUMBER};
@@ -66,6 +66,19 @@ pub fn every_run_is_judged_clean()
         → (dumps : List (List Write)) → AreDumpsOf last dumps → AreOneHistory (history_of (entries_of last) dumps) (history_of_machine last) }
     ensures clean { (count limit capacity : ℕ) (asks : ℕ → Option Asks) (events : List Event) (replies : List Reply) (last : Machine) → Run (first_machine count limit capacity asks) events replies last
         → (dumps : List (List Write)) → AreDumpsOf last dumps → IsJudgedClean count (entries_of last) dumps }
+{
+    a_vector_is_of_one_database();
+    a_verdict_is_one();
+}
+
+/// Over every run the book, in which refusals stand too and served operations may still be missing, and what each server holds have one answer
+/// of the judge: that each session had what it asked for. Where no entry waits to be filed they stand for the very history that the machine has.
+pub fn every_book_is_judged_clean()
+    ensures history { (count limit capacity : ℕ) (asks : ℕ → Option Asks) (events : List Event) (replies : List Reply) (last : Machine) → Run (first_machine count limit capacity asks) events replies last
+        → ((who : ℕ) (session : SessionSets) → last.sessions who ≡ Some session → session.waiting ≡ [])
+        → (dumps : List (List Write)) → AreDumpsOf last dumps → AreOneHistory (history_of last.filed dumps) (history_of_machine last) }
+    ensures clean { (count limit capacity : ℕ) (asks : ℕ → Option Asks) (events : List Event) (replies : List Reply) (last : Machine) → Run (first_machine count limit capacity asks) events replies last
+        → (dumps : List (List Write)) → AreDumpsOf last dumps → IsJudgedClean count last.filed dumps }
 {
     a_vector_is_of_one_database();
     a_verdict_is_one();
