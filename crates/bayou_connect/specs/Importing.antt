@@ -1,7 +1,9 @@
 -- Rows that are put into a store: this project's own.
-use Rattle.std.specs.Prelude.{◌≡◌, ◌*◌, ◌+◌, ◌<◌, ◌≤◌, ℕ, List, [], None, Result, Ok, Err, map}
+use Rattle.std.specs.Prelude.{◌≡◌, ◌*◌, ◌+◌, ◌<◌, ◌≤◌, ℕ, List, [], Option, None, Some, Result, Ok, Err, map}
 use Rattle.bayou_base.specs.declared.limits.TheConstants.{MAX_OPS}
-use Rattle.bayou_client.specs.Operating.{Asking}
+use Rattle.bayou_base.specs.declared.answer.Accepted.{Accepted}
+use Rattle.bayou_base.specs.declared.server.ServerId.{ServerId}
+use Rattle.bayou_client.specs.Operating.{Asking, asks_at}
 use Rattle.bayou_client.specs.declared.fault.LinkFault.{LinkFault}
 use Rattle.bayou_client.specs.declared.fault.LinkFault.TheVariants as links
 use Rattle.bayou_connect.specs.Listing.{Row}
@@ -34,9 +36,14 @@ pub record IsBegunAt (run writes : ℕ) (asker : Asking) : Type 0 where
   pub number : asker.session.id.index ≡ 0
   pub asked : asker.asked ≡ None
 
--- what a Write that wasn't accepted is told as
-abbrev pub unput_as : LinkFault → Result NotPut ConnectFault
-unput_as links.Lost = Ok Lost
-unput_as links.BadFrame = Ok Lost
-unput_as (links.Refused refusal) = Ok (Refused refusal)
-unput_as links.OutOfMemory = Err Memory
+-- the session of this run asks the server for the Write behind so many, which puts these rows
+abbrev pub AsksToPut : (run : ℕ) → ServerId → (rows : List Row) → (writes : ℕ) → Asking → Type 0
+AsksToPut run server rows writes asker = (begun : Asking) × (program : Program) × IsBegunAt run writes begun × Puts rows program × (asker ≡ asks_at begun server program)
+
+-- why a Write wasn't accepted of which this was told, if it wasn't
+abbrev pub stopped_as : Result Accepted LinkFault → Result (Option NotPut) ConnectFault
+stopped_as (Ok accepted) = Ok None
+stopped_as (Err links.Lost) = Ok (Some Lost)
+stopped_as (Err links.BadFrame) = Ok (Some Lost)
+stopped_as (Err (links.Refused refusal)) = Ok (Some (Refused refusal))
+stopped_as (Err links.OutOfMemory) = Err Memory

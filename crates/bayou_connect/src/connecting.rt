@@ -78,7 +78,9 @@ pub(crate) fn tell_wrong<E: Write>(
     errors: &mut E,
     number: u64,
     wrong: Wrong,
-) -> Result<(), ConnectFault> {
+) -> Result<(), ConnectFault>
+    ensures { IfErr result (λ fault. fault ≡ Memory) }
+{
     let line = format!(in alloc; "bayou: line {number}: {wrong}\n")?;
     // Where it can't be told nothing else is to be done.
     let _ = errors.write_all(line.as_bytes());
@@ -102,7 +104,9 @@ fn do_next<I: Read, W: Write, T: Files<File = File> + Sockets + Wait + Clock>(
 }
 
 // Asks for the next line, as far as that can be told: it names the server that is asked first.
-fn prompt<E: Write>(desk: &Desk, errors: &mut E) -> Result<(), ConnectFault> {
+fn prompt<E: Write>(desk: &Desk, errors: &mut E) -> Result<(), ConnectFault>
+    ensures { IfErr result (λ fault. fault ≡ Memory) }
+{
     let Some(server) = desk.store.server_at(desk.first) else {
         return Ok(());
     };
@@ -117,7 +121,10 @@ fn prompt<E: Write>(desk: &Desk, errors: &mut E) -> Result<(), ConnectFault> {
 pub(crate) fn tell_strangers<E: Write>(
     desk: &mut Desk,
     errors: &mut E,
-) -> Result<(), ConnectFault> {
+) -> Result<(), ConnectFault>
+    ensures same { IsSameDesk desk.old desk.new }
+    ensures fault { IfErr result (λ fault. fault ≡ Memory) }
+{
     for at in 0..desk.store.len() {
         let alloc = desk.alloc;
         if let Some((place, stranger)) = desk.store.news_at(at) {
@@ -359,7 +366,9 @@ fn tell_other_asks<E: Write>(
     path: &str,
     kept: Asks,
     said: Asks,
-) -> Result<(), ConnectFault> {
+) -> Result<(), ConnectFault>
+    ensures { IfErr result (λ fault. fault ≡ Memory) }
+{
     let (kept, said) = (asks_text(kept), asks_text(said));
     let line = format!(in alloc;
         "bayou: {path}: the session there asks for {kept}, and --session for {said}; nothing was asked\n"

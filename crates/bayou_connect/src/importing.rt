@@ -1,7 +1,8 @@
 //! Rows that are put into a store, at one server, under names by which each Write acts once.
-ghost use Rattle.std.specs.Prelude.{◌≡◌, ◌<◌, ◌≤◌, IfOk, None, length, map};
+ghost use Rattle.std.specs.Prelude.{◌≡◌, ◌<◌, ◌≤◌, IfErr, IfOk, None, length, map};
 ghost use Rattle.bayou_base.specs.declared.limits.TheConstants.{MAX_OPS as MOST_OPS, MAX_PLACES as MOST_PLACES};
-ghost use Rattle.bayou_connect.specs.Importing.{IsBegunAt, Puts, TakesWrites, put_of, unput_as};
+ghost use Rattle.bayou_connect.specs.declared.fault.ConnectFault.TheVariants.{Memory};
+ghost use Rattle.bayou_connect.specs.Importing.{AsksToPut, IsBegunAt, Puts, TakesWrites, put_of, stopped_as};
 
 use crate::connecting::greeter_of;
 use crate::desk::OWN;
@@ -10,7 +11,7 @@ use crate::plan::{NONE, Place};
 use crate::putting_told::Progress;
 use crate::reach::{Access, Greeter, Purpose};
 use bayou_base::limits::ROUND_MILLISECONDS;
-use bayou_base::{Key, MAX_OPS, MAX_WRITES, Refusal, Value, Vector};
+use bayou_base::{Accepted, Key, MAX_OPS, MAX_WRITES, Refusal, Value, Vector};
 use bayou_client::{Asker, LinkFault};
 use bayou_greeting::StoreKey;
 use bayou_lang::{Op, RestingProgram, Term};
@@ -85,14 +86,15 @@ fn asker_at(run: u32, writes: u32) -> Asker
     Asker::new(Session::resume(OWN, NONE, past), None)
 }
 
-// Why a Write wasn't accepted, unless memory ran out here.
-fn fault_of(fault: LinkFault) -> Result<NotPut, ConnectFault>
-    ensures { result ≡ unput_as fault }
+// Why a Write wasn't accepted of which this was told, if it wasn't, unless memory ran out here.
+fn stop_of(told: Result<Accepted, LinkFault>) -> Result<Option<NotPut>, ConnectFault>
+    ensures { result ≡ stopped_as told }
 {
-    match fault {
-        LinkFault::OutOfMemory => Err(ConnectFault::Memory),
-        LinkFault::Lost | LinkFault::BadFrame => Ok(NotPut::Lost),
-        LinkFault::Refused(refusal) => Ok(NotPut::Refused(refusal)),
+    match told {
+        Ok(_) => Ok(None),
+        Err(LinkFault::OutOfMemory) => Err(ConnectFault::Memory),
+        Err(LinkFault::Lost | LinkFault::BadFrame) => Ok(Some(NotPut::Lost)),
+        Err(LinkFault::Refused(refusal)) => Ok(Some(NotPut::Refused(refusal))),
     }
 }
 
@@ -107,6 +109,18 @@ struct Putting<'a, T> {
 }
 
 impl<'a, T: Sockets + Wait + Clock> Putting<'a, T> {
+    // The session that asks the server for the Write behind so many, which puts these rows.
+    fn asker_of(&self, rows: &[(Key, Value)], writes: u32) -> Result<Asker, AllocError>
+        requires few { length rows.now ≤ MOST_OPS }
+        requires left { writes < MOST_PLACES }
+        ensures { IfOk result (AsksToPut self.now.target.run self.now.target.place.id rows.now writes) }
+    {
+        let program = program_of(self.alloc, rows)?;
+        let mut asker = asker_at(self.target.run, writes);
+        asker.ask(self.target.place.id, program);
+        Ok(asker)
+    }
+
     // Has the server do the Write behind so many, which puts these rows, once: why it wasn't accepted, if it wasn't.
     fn put_once(
         &mut self,
@@ -116,7 +130,7 @@ impl<'a, T: Sockets + Wait + Clock> Putting<'a, T> {
         requires few { length rows.now ≤ MOST_OPS }
         requires left { writes < MOST_PLACES }
     {
-        let program = program_of(self.alloc, rows)?;
+        let mut asker = self.asker_of(rows, writes)?;
         let (rt, time) = (self.rt, self.target.timeout_seconds);
         let Some(mut link) = self
             .access
@@ -124,14 +138,9 @@ impl<'a, T: Sockets + Wait + Clock> Putting<'a, T> {
         else {
             return Ok(Some(NotPut::Away));
         };
-        let mut asker = asker_at(self.target.run, writes);
-        asker.ask(self.target.place.id, program);
         let heard = asker.send(self.alloc, &mut link);
         self.access.settle(rt, &link);
-        match heard.told {
-            Ok(_) => Ok(None),
-            Err(fault) => Ok(Some(fault_of(fault)?)),
-        }
+        stop_of(heard.told)
     }
 
     // The same, and again, each time behind a rest, where it isn't known whether it was accepted, or it wasn't sent.
@@ -182,7 +191,10 @@ impl<'a, T: Sockets + Wait + Clock> Putting<'a, T> {
     }
 
     // Tells, as far as it can be told, who answered in place of the server, where that wasn't told yet.
-    fn tell_stranger<E: Write>(&mut self, errors: &mut E) -> Result<(), ConnectFault> {
+    fn tell_stranger<E: Write>(&mut self, errors: &mut E) -> Result<(), ConnectFault>
+        ensures same { self.new.target ≡ self.old.target }
+        ensures fault { IfErr result (λ fault. fault ≡ Memory) }
+    {
         let (id, address) = (self.target.place.id.index, self.target.place.address);
         if let Some(stranger) = self.access.news() {
             let line = format!(in self.alloc; "bayou: server {id} at {address} {stranger}\n")?;

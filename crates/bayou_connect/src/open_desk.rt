@@ -1,11 +1,12 @@
 //! A desk that stays open, for who does lines one by one, and shows what is seen from there.
-ghost use Rattle.std.specs.Prelude.{◌≡◌, IfOk, IfSome, MatchBool, map, option_map};
+ghost use Rattle.std.specs.Prelude.{◌≡◌, IfErr, IfOk, IfSome, MatchBool, map, option_map};
 ghost use Rattle.bayou_connect.specs.Desks.{IsSameDesk, IsSameSeat};
 ghost use Rattle.bayou_connect.specs.Finals.{keeps_finals, outlook_of, own_in};
 ghost use Rattle.bayou_connect.specs.Open.{DoesAlone, EndsAlone, IsDeskOf, wrong_of};
 ghost use Rattle.bayou_connect.specs.Own.{TellsAsLooked};
 ghost use Rattle.bayou_connect.specs.Seeing.{Sees};
 ghost use Rattle.bayou_connect.specs.Sessions.{kept_of, own_session};
+ghost use Rattle.bayou_connect.specs.declared.fault.ConnectFault.TheVariants.{Memory};
 ghost use Rattle.bayou_connect.specs.declared.finals.Telling.TheVariants.{News};
 ghost use Rattle.bayou_streams.specs.Account.{account};
 
@@ -123,7 +124,10 @@ impl OpenDesk {
     }
 
     // Tells what is wrong with the line, if anything is, and what isn't printed of what was done.
-    fn tell<E: Write>(&mut self, errors: &mut E, wrong: Option<Wrong>) -> Result<(), ConnectFault> {
+    fn tell<E: Write>(&mut self, errors: &mut E, wrong: Option<Wrong>) -> Result<(), ConnectFault>
+        ensures same { IsSameDesk self.old.desk self.new.desk }
+        ensures fault { IfErr result (λ fault. fault ≡ Memory) }
+    {
         tell_strangers(&mut self.desk, errors)?;
         tell_full(&mut self.desk, errors);
         match wrong {
@@ -133,7 +137,10 @@ impl OpenDesk {
     }
 
     /// Tells, as far as it can be told, who answered in place of a server, where that wasn't told yet.
-    pub fn tell_strangers<E: Write>(&mut self, errors: &mut E) -> Result<(), ConnectFault> {
+    pub fn tell_strangers<E: Write>(&mut self, errors: &mut E) -> Result<(), ConnectFault>
+        ensures same { IsSameDesk self.old.desk self.new.desk }
+        ensures fault { IfErr result (λ fault. fault ≡ Memory) }
+    {
         tell_strangers(&mut self.desk, errors)
     }
 

@@ -1,5 +1,6 @@
 //! How far rows are put, as it is told at a terminal.
-ghost use Rattle.std.specs.Prelude.{◌≡◌, ◌∷◌, ◌++◌, IfOk, codes, decimal, string_bytes};
+ghost use Rattle.std.specs.Prelude.{◌≡◌, ◌∷◌, ◌++◌, ◌*◌, IfErr, IfOk, Ok, codes, false, decimal, string_bytes};
+ghost use Rattle.bayou_connect.specs.declared.fault.ConnectFault.TheVariants.{Memory};
 
 use crate::deadline::milliseconds;
 use crate::fault::ConnectFault;
@@ -52,7 +53,11 @@ impl Progress {
         alloc: Global,
         errors: &mut E,
         done: usize,
-    ) -> Result<(), ConnectFault> {
+    ) -> Result<(), ConnectFault>
+        ensures silent { self.old.is_terminal ≡ false → (result ≡ Ok ()) × (self.new ≡ self.old) × (errors.new ≡ errors.old) }
+        ensures same { (self.new.is_terminal ≡ self.old.is_terminal) × (self.new.of ≡ self.old.of) }
+        ensures fault { IfErr result (λ fault. fault ≡ Memory) }
+    {
         let now = milliseconds(rt);
         if !self.is_terminal || now < self.next {
             return Ok(());
@@ -66,7 +71,10 @@ impl Progress {
     }
 
     /// Clears what is told, so that what comes next stands on a line of its own.
-    pub(crate) fn clear<E: Write>(&mut self, errors: &mut E) {
+    pub(crate) fn clear<E: Write>(&mut self, errors: &mut E)
+        ensures cleared { self.new ≡ record self.old { is_shown = false } }
+        ensures silent { self.old.is_shown ≡ false → errors.new ≡ errors.old }
+    {
         if self.is_shown {
             self.is_shown = false;
             let _ = errors.write_all(CLEAR.as_bytes());

@@ -87,7 +87,7 @@ pub enum PlanFault {
     NoServer,
     #[error("--listen takes ADDRESS:PORT, with an address of numbers")]
     NoAddress,
-    #[error("--listen at an address that isn't loopback wants --anyone: the store has no passwords and no ciphers")]
+    #[error("--listen at an address that isn't loopback wants --anyone: there are no ciphers, and --key alone keeps others out")]
     OpenToAnyone,
     #[error("--peer takes I=ADDRESS:PORT, I being another server's number")]
     NoPeer,
