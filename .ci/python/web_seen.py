@@ -1,5 +1,7 @@
 """The page in Chromium: what a person sees and does there."""
+import http.server
 import os
+import threading
 import time
 
 from browser import Browser
@@ -18,6 +20,25 @@ def cell(key):
     return ("(()=>{const t=document.querySelector('#grid table');if(!t||!t.tHead)return null;"
             "const c=[...t.tHead.rows[0].cells].findIndex(x=>x.textContent==='%s'),r=[...t.tBodies[0].rows].find(x=>x.cells[0].textContent==='%s');"
             "return r&&c>0?[r.cells[c].firstChild.textContent,r.cells[c].className].join():null})()" % (room, hour))
+
+
+class Framing(http.server.HTTPServer):
+    """A page of somebody else on this machine, which frames the one that is meant."""
+
+    def __init__(self, link):
+        class Answer(http.server.BaseHTTPRequestHandler):
+            def do_GET(self):
+                text = b"<iframe src='%s'></iframe>" % link.encode()
+                self.send_response(200)
+                self.send_header("Content-Type", "text/html")
+                self.send_header("Content-Length", str(len(text)))
+                self.end_headers()
+                self.wfile.write(text)
+
+            def log_message(self, *_):
+                pass
+        super().__init__(("127.0.0.1", 0), Answer)
+        threading.Thread(target=self.serve_forever, daemon=True).start()
 
 
 def button(key):
@@ -114,10 +135,11 @@ def odd(checks, browser, program, store, folder):
         named = browser.page()
         named.go(web.link.replace("127.0.0.1", "localhost"))
         checks.that("browser: another name shows no page", named.soon("document.body.textContent.includes('Open the address')"), True)
-        other = browser.page()
-        other.go("data:text/html,<iframe src='%s'></iframe>" % web.link.split("#")[0])
-        time.sleep(1)
-        checks.that("browser: it is framed by nobody", any("frame-ancestors" in text for text in other.complaints()), True)
+        other, frame = browser.page(), Framing(web.link)
+        other.go("http://127.0.0.1:%d/" % frame.server_port)
+        checks.that("browser: it is framed by nobody", other.soon("document.querySelector('iframe').contentDocument===null"), True)
+        checks.that("browser: by its policy", [text for text in other.complaints() if "frame-ancestors 'none'" in text] != [], True)
+        frame.shutdown()
         page.js("location.reload()")
         page.soon("typeof state!=='undefined'&&!!state&&state.rows.length>0")
         for index in range(3):

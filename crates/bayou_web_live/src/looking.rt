@@ -44,11 +44,11 @@ fn shown_rows(alloc: Global, rows: Vec<SeenRow>) -> Result<Vec<Row>, AllocError>
             value,
             standing,
         } = row;
-        shown.push_reserved(Row {
+        shown.push(Row {
             key,
             value,
             standing,
-        });
+        })?;
     }
     Ok(shown)
 }
