@@ -4,6 +4,8 @@ import struct
 import zlib
 
 COLOURS = 256
+# A quarter of them is for those whose channels differ by more, which are few on a page, and say much.
+BRIGHT = 70
 
 
 def chunks(data):
@@ -51,7 +53,8 @@ def smaller(source, target):
     with open(source, "rb") as file:
         width, lines = rows(file.read())
     count = collections.Counter(colour for line in lines for colour in line)
-    kept = [colour for colour, _ in count.most_common(COLOURS)]
+    bright = [colour for colour, _ in count.most_common() if max(colour) - min(colour) > BRIGHT][:COLOURS // 4]
+    kept = bright + [colour for colour, _ in count.most_common(COLOURS) if colour not in bright][:COLOURS - len(bright)]
     place = {colour: at for at, colour in enumerate(kept)}
     for colour in count:
         if colour not in place:

@@ -1,7 +1,6 @@
 -- A request asks for one thing.
-use Rattle.std.proofs.Common.{rules, arith, length, ap, sym, ◌∙◌, ◌≡◌}
+use Rattle.std.proofs.Common.{arith, length, ap, sym, ◌∙◌}
 use Rattle.http.specs.declared.request.Parts.{Parts}
-use Rattle.http_uri.specs.Uri.{uri_path}
 use Rattle.bayou_web.specs.Door.{AsksPage, MayDo, MayLook}
 use Rattle.bayou_web.specs.declared.door.Door.{Door}
 
