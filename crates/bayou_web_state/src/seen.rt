@@ -154,10 +154,9 @@ impl Seen {
         self.session = session;
     }
 
-    // The line that made the own Write of this name, where that is known.
-    fn line_of(&self, wid: Wid) -> Option<&str> {
-        let own = self.own.iter().find(|own| own.write.wid == wid)?;
-        own.line.as_deref()
+    // The own Write of this name, if it is one already.
+    fn own_of(&self, wid: Wid) -> Option<&Own> {
+        self.own.iter().find(|own| own.write.wid == wid)
     }
 
     /// The own Writes are these now. The line made those that weren't there before, if one is there.
@@ -172,7 +171,10 @@ impl Seen {
     {
         let mut now = Vec::with_capacity(alloc, own.len())?;
         for write in own {
-            let line = self.line_of(write.wid).or(line);
+            let line = match self.own_of(write.wid) {
+                Some(before) => before.line.as_deref(),
+                None => line,
+            };
             now.push(Own {
                 write: *write,
                 line: kept_text(alloc, line)?,
