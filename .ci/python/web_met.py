@@ -55,6 +55,11 @@ def two(checks, program, folder):
         states = [one.looks(lambda state: ROOM in values(state)) for one in (kim, lee)]
         checks.that("two: each sees an own claim, tentative", [values(state).get(ROOM) for state in states], [("kim", "tentative"), ("lee", "tentative")])
         checks.that("two: each has a Write that isn't final", [[own["line"].split()[-1] for own in state["own"]] for state in states], [["kim"], ["lee"]])
+        for line, wanted in (("put max 1", ["put max 1"]), ("put max 2", [None, "put max 2"])):
+            with Web(program, store, path(folder, "max.state"), "max") as web:
+                web.do(line)
+                state = web.looks(lambda state: len(state["own"]) == len(wanted))
+                checks.that("two: a line is of the Write that it made", [own["line"] for own in state["own"]], wanted)
         store.part(0)
         states = [one.looks(lambda state: not state["own"] and all(row["standing"] == "final" for row in state["rows"])) for one in (kim, lee)]
         checks.that("two: once they met all is final, and both see the same", (values(states[0]), [state["own"] for state in states]),

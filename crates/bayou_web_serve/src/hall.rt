@@ -1,5 +1,7 @@
 //! What the threads that serve connections share, and a desk that stands for it.
 
+ghost use Rattle.std.specs.Prelude.{◌≡◌};
+
 use crate::counter::{Counter, NotDone};
 use crate::serving::{Habits, serve_stream};
 use crate::timed::milliseconds;
