@@ -1,6 +1,4 @@
 //! A page that is served, from its start to its end.
-ghost use Rattle.std.specs.Prelude.{◌≡◌};
-
 use crate::fault::WebFault;
 use crate::looking::Looking;
 use bayou_connect::{Ended, Names, OpenDesk, Plan};
