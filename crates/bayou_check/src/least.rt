@@ -1,0 +1,43 @@
+//! The least line with a fault, by the reader that runs and audits have.
+ghost use Rattle.std.specs.Prelude.{◌≡◌, IfOk, MatchOption};
+ghost use Rattle.bayou_script.specs.Order.{IsRefusedBy, RefusedBy, lines_of};
+ghost use Rattle.bayou_script.specs.declared.fault.InputRefusal.TheVariants.{Line};
+
+use bayou_script::{Front, InputRefusal, ScriptFault, TextReader};
+use std::alloc::{AllocError, Global};
+
+/// The least line with a fault.
+#[derive(Clone, Copy, Debug, PartialEq, Eq)]
+pub struct Least {
+    /// The number of the line, from 1 on.
+    pub number: u64,
+    pub fault: ScriptFault,
+}
+
+fn least_of(refusal: InputRefusal) -> Result<Least, AllocError>
+    ensures { IfOk result (λ least. refusal ≡ Line least.number least.fault) }
+{
+    match refusal {
+        InputRefusal::Line { number, fault } => Ok(Least { number, fault }),
+        InputRefusal::OutOfMemory => Err(AllocError),
+    }
+}
+
+// The same of a text that was read to its end.
+fn at_end<F: Front>(alloc: Global, reader: TextReader<F>) -> Result<Option<Least>, AllocError> {
+    match reader.finish(alloc) {
+        Ok(_) => Ok(None),
+        Err(refusal) => Ok(Some(least_of(refusal)?)),
+    }
+}
+
+/// The least line with a fault of a text of this kind, or none where the text is of this kind.
+pub fn least_fault<F: Front>(alloc: Global, text: &[u8]) -> Result<Option<Least>, AllocError>
+    ensures { IfOk result (λ least. MatchOption least ((told : F.Text) × F.says (lines_of text.now) told) (λ least. IsRefusedBy F.order (lines_of text.now) least.number least.fault)) }
+{
+    let mut reader = TextReader::<F>::new(alloc);
+    match reader.feed(alloc, text) {
+        Ok(()) => at_end(alloc, reader),
+        Err(refusal) => Ok(Some(least_of(refusal)?)),
+    }
+}

@@ -1,0 +1,28 @@
+//! Lines that a line with a fault may be meant as.
+ghost use Rattle.std.specs.Prelude.{◌×◌, string_bytes};
+ghost use Rattle.bayou_text.specs.Said.{Said};
+ghost use Rattle.bayou_text.specs.Table.{Spells};
+
+use bayou_text::read_line;
+use std::alloc::{AllocError, Global};
+
+/// A line that is read.
+#[derive(Debug, Drop)]
+pub struct Meant {
+    pub line: String,
+    pub ghost read: { (said : Said) × Spells (string_bytes line) said },
+}
+
+impl Meant {
+    ghost use Rattle.std.specs.Prelude.{◌≡◌, IfOk, IfSome};
+
+    /// The line, if it is read.
+    pub(crate) fn of(alloc: Global, line: String) -> Result<Option<Meant>, AllocError>
+        ensures { IfOk result (λ meant. IfSome meant (λ meant. meant.line ≡ line)) }
+    {
+        match read_line(alloc, line.as_bytes()) {
+            Ok(_) => Ok(Some(Meant { line })),
+            Err(_) => Ok(None),
+        }
+    }
+}
