@@ -4,14 +4,16 @@
 ghost use Rattle.std.specs.Prelude.{◌≡◌, IfSome};
 ghost use Rattle.std.specs.Thread.{IsSend};
 
+mod more;
 mod progress;
 
 use bayou_connect::Input;
 use bayou_shell::{
-    Errand, Files, refuse_words, run_connected, run_exported, run_imported, run_key, run_main,
-    run_net, run_renewed, run_served,
+    Errand, Files, refuse_words, run_checked, run_connected, run_exported, run_imported, run_key, run_main,
+    run_net, run_renewed, run_served, tell_device,
 };
 use bayou_streams::{CountedChannel, Output};
+use more::{More, tell_more};
 use progress::{Counted, Screen, tell_progress};
 use std::alloc::Global;
 use std::fs::{File, OpenOptions};
@@ -27,6 +29,9 @@ use std::{array, env, fs, io, thread};
 /// How many standard streams there are: input, output and errors.
 const STREAMS: usize = 3;
 
+/// The exit status of a fault that is no refusal.
+const FAILED: u8 = 3;
+
 /// Which gives nothing and takes all.
 const NULL_DEVICE: &str = "/dev/null";
 
@@ -36,6 +41,8 @@ struct NamedFiles<'a, T> {
     rt: &'a T,
     /// The file that was read.
     file: Option<CountedChannel<File, ()>>,
+    /// What else is known of it.
+    more: More,
 }
 
 impl<T: fs::Files<File = File>> Files for NamedFiles<'_, T> {
@@ -45,8 +52,13 @@ impl<T: fs::Files<File = File>> Files for NamedFiles<'_, T> {
 
     ghost refuses = { λ name. Unit {0} };
 
-    fn open(&mut self, _alloc: Global, name: &str) -> io::Result<File> {
-        File::open(self.rt, name)
+    fn open(&mut self, alloc: Global, name: &str) -> io::Result<File> {
+        self.more.note(alloc, name);
+        let opened = File::open(self.rt, name);
+        if let Err(error) = &opened {
+            self.more.refuse(alloc, error);
+        }
+        opened
     }
 
     ghost kept = { λ files has_failed turns_left. IfSome files.file (λ file. (has_failed ≡ file.read_failed) × (turns_left ≡ file.turns_left)) };
@@ -105,7 +117,11 @@ fn run<
         errors,
         told,
     } = streams;
-    let mut files = NamedFiles { rt, file: None };
+    let mut files = NamedFiles {
+        rt,
+        file: None,
+        more: More::new(),
+    };
     let mut output = Output::new(Counted::new(output, rt, screen));
     let mut errors = Output::new(Counted::new(errors, rt, screen));
     let mut input = CountedChannel::new(input, ());
@@ -117,17 +133,33 @@ fn run<
         &mut output,
         &mut errors,
     );
+    if let Errand::Done(status) = errand {
+        let read_failed = files.file.as_ref().is_some_and(|file| file.read_failed);
+        let is_alone = screen.lock(rt).has_one_line() && told.is_terminal();
+        tell_more(&files.more, words, status, read_failed, is_alone, &mut errors);
+        return status;
+    }
     match errand {
         Errand::Done(status) => status,
-        Errand::Net { folder, script } => run_net(
-            rt,
-            alloc,
-            folder.as_str(),
-            script,
-            &mut output,
-            &mut errors,
-            &mut Output::new(Counted::new(told, rt, screen)),
-        ),
+        Errand::Net { folder, script } => {
+            let servers = script.servers;
+            let status = run_net(
+                rt,
+                alloc,
+                folder.as_str(),
+                script,
+                &mut output,
+                &mut errors,
+                &mut Output::new(Counted::new(told, rt, screen)),
+            );
+            if status == FAILED {
+                tell_device(rt, alloc, folder.as_str(), servers, &mut errors);
+            }
+            status
+        }
+        Errand::Check(checkup) => {
+            run_checked(rt, alloc, &checkup, &mut input, &mut output, &mut errors)
+        }
         Errand::Serve(service) => {
             // A server that lives is at work for as long as it does, which is no news.
             screen.lock(rt).end();

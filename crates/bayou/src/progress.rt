@@ -4,7 +4,7 @@ ghost use Rattle.std.specs.Duration.{as_nanos};
 ghost use Rattle.bayou_streams.specs.Lines.{counted, line_feeds};
 
 use std::alloc::{AllocError, Global};
-use std::io::Write;
+use std::io::{ErrorKind, Write};
 use std::sync::{Mutex, Wait};
 use std::time::{Clock, Duration};
 use std::{io, thread};
@@ -48,6 +48,8 @@ pub struct Screen<E> {
     is_shown: bool,
     /// Whether the work ended.
     is_over: bool,
+    /// Whether who reads the output has gone.
+    is_cut: bool,
 }
 
 impl<E: Write> Screen<E> {
@@ -65,6 +67,7 @@ impl<E: Write> Screen<E> {
             seen: 0,
             is_shown: false,
             is_over: false,
+            is_cut: false,
         }
     }
 
@@ -85,6 +88,18 @@ impl<E: Write> Screen<E> {
     {
         self.clear();
         self.is_over = true;
+    }
+
+    /// Whether one line was printed or told, and no more.
+    pub fn has_one_line(&self) -> bool
+        ensures { result ≡ true ↔ self.now.printed ≡ 1 }
+    {
+        self.printed == 1
+    }
+
+    // Whether this says that the output is at fault, where only its reader has gone: as other tools do, that is told by the status alone.
+    fn is_needless(&self, text: &[u8]) -> bool {
+        self.is_cut && matches!(text, b"bayou: output\n")
     }
 
     // Counts the line feeds.
@@ -168,9 +183,19 @@ impl<W: Write, E: Write, T: Wait> Write for Counted<'_, W, E, T> {
     fn write(&mut self, buf: &[u8]) -> io::Result<usize> {
         let mut screen = self.screen.lock(self.rt);
         screen.clear();
-        let count = self.writer.write(buf)?;
-        screen.count(&buf[..count]);
-        Ok(count)
+        if screen.is_needless(buf) {
+            return Ok(buf.len());
+        }
+        match self.writer.write(buf) {
+            Ok(count) => {
+                screen.count(&buf[..count]);
+                Ok(count)
+            }
+            Err(error) => {
+                screen.is_cut = screen.is_cut || error.kind() == ErrorKind::BrokenPipe;
+                Err(error)
+            }
+        }
     }
 
     fn flush(&mut self) -> io::Result<()> {

@@ -1,5 +1,5 @@
 //! Lines that a line with a fault may be meant as.
-ghost use Rattle.std.specs.Prelude.{◌×◌, string_bytes};
+ghost use Rattle.std.specs.Prelude.{string_bytes};
 ghost use Rattle.bayou_text.specs.Said.{Said};
 ghost use Rattle.bayou_text.specs.Table.{Spells};
 
