@@ -55,8 +55,10 @@ impl<T: fs::Files<File = File>> Files for NamedFiles<'_, T> {
     fn open(&mut self, alloc: Global, name: &str) -> io::Result<File> {
         self.more.note(alloc, name);
         let opened = File::open(self.rt, name);
-        if let Err(error) = &opened {
-            self.more.refuse(alloc, error);
+        match &opened {
+            Ok(_) if is_folder(self.rt, name) => self.more.refuse(alloc, &"it is a folder"),
+            Ok(_) => {}
+            Err(error) => self.more.refuse(alloc, error),
         }
         opened
     }
@@ -67,6 +69,14 @@ impl<T: fs::Files<File = File>> Files for NamedFiles<'_, T> {
         ensures { IfSome self.new.file (λ kept. (file.read_failed ≡ kept.read_failed) × (file.turns_left ≡ kept.turns_left)) }
     {
         self.file = Some(file);
+    }
+}
+
+// Whether it is a folder, which is opened and can't be read.
+fn is_folder<T: fs::Files<File = File>>(rt: &T, name: &str) -> bool {
+    match fs::metadata(rt, name) {
+        Ok(found) => found.is_dir(),
+        Err(_) => false,
     }
 }
 
@@ -134,9 +144,8 @@ fn run<
         &mut errors,
     );
     if let Errand::Done(status) = errand {
-        let read_failed = files.file.as_ref().is_some_and(|file| file.read_failed);
         let is_alone = screen.lock(rt).has_one_line() && told.is_terminal();
-        tell_more(&files.more, words, status, read_failed, is_alone, &mut errors);
+        tell_more(&files.more, words, status, is_alone, &mut errors);
         return status;
     }
     match errand {

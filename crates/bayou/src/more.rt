@@ -2,7 +2,7 @@
 use bayou_streams::Output;
 use std::alloc::{AllocError, Global};
 use std::convert::AsStr;
-use std::io;
+use std::fmt;
 use std::io::Write;
 
 /// The commands whose texts `bayou check` looks at.
@@ -19,7 +19,7 @@ const FAILED: u8 = 3;
 pub struct More {
     /// Its name.
     name: Option<String>,
-    /// The line that tells why it wasn't opened.
+    /// The line that tells why it can't be read.
     refused: Option<String>,
 }
 
@@ -36,10 +36,10 @@ impl More {
         self.name = name.to_string(alloc).ok();
     }
 
-    /// Keeps why the file wasn't opened, where memory suffices.
-    pub fn refuse(&mut self, alloc: Global, error: &io::Error) {
+    /// Keeps why the file can't be read, where memory suffices.
+    pub fn refuse<D: fmt::Display>(&mut self, alloc: Global, why: &D) {
         if let Some(name) = &self.name {
-            self.refused = cause_line(alloc, name.as_str(), error).ok();
+            self.refused = cause_line(alloc, name.as_str(), why).ok();
         }
     }
 
@@ -51,8 +51,8 @@ impl More {
     }
 }
 
-fn cause_line(alloc: Global, name: &str, error: &io::Error) -> Result<String, AllocError> {
-    format!(in alloc; "  {name}: {error}\n")
+fn cause_line<D: fmt::Display>(alloc: Global, name: &str, why: &D) -> Result<String, AllocError> {
+    format!(in alloc; "  {name}: {why}\n")
 }
 
 // Whether the words call a command whose text can be checked.
@@ -70,21 +70,17 @@ fn write_parts<E: Write>(errors: &mut Output<E>, parts: &[&str]) {
     }
 }
 
-/// Tells more of what ended with this status: why a file wasn't opened or read; and at a terminal, where the line of a fault stands alone, what tells more
+/// Tells more of what ended with this status: why a file can't be read; and at a terminal, where the line of a fault stands alone, what tells more
 /// of the text's faults.
 pub fn tell_more<S: AsStr, E: Write>(
     more: &More,
     words: &[S],
     status: u8,
-    read_failed: bool,
     is_alone: bool,
     errors: &mut Output<E>,
 ) {
-    if let Some(line) = &more.refused {
+    if let (Some(line), FAILED) = (&more.refused, status) {
         write_parts(errors, &[line.as_str()]);
-    } else if status == FAILED && read_failed {
-        let name = more.name();
-        write_parts(errors, &["  ", name, ": it can't be read to its end; is it a folder?\n"]);
     } else if status == REFUSED && is_alone && is_checked(words) {
         let name = more.name();
         write_parts(errors, &["  bayou check ", name, " says where, and what was expected\n"]);

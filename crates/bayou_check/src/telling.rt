@@ -4,7 +4,7 @@ ghost use Rattle.std.specs.Prelude.{◌≡◌, IfOk};
 use crate::expected::Expected;
 use crate::found::Found;
 use crate::meant::Meant;
-use crate::no_json::look_no_json;
+use crate::no_json::{NoJson, look_no_json};
 use crate::span::span_of;
 use crate::text::{characters, legible};
 use crate::told::{Mistake, Span, Step, Told};
@@ -111,19 +111,30 @@ fn of_whole(alloc: Global, bytes: &[u8], found: Found, expected: Expected) -> Fi
     }
 }
 
+// The line, if it is short enough to be shown.
+fn if_short(fix: Option<Meant>) -> Option<Meant> {
+    let meant = fix?;
+    if meant.line.len() <= MAX_FIX {
+        Some(meant)
+    } else {
+        None
+    }
+}
+
 fn of_no_json(alloc: Global, bytes: &[u8]) -> Result<Finding, AllocError> {
-    let told = look_no_json(alloc, bytes)?;
-    let fix = match told.fix {
-        Some(meant) if meant.line.len() <= MAX_FIX => Some(meant),
-        _ => None,
-    };
+    let NoJson {
+        found,
+        expected,
+        span,
+        fix,
+    } = look_no_json(alloc, bytes)?;
     Ok(Finding {
         path: Vec::new(alloc),
-        span: told.span,
-        found: told.found,
-        expected: told.expected,
+        span,
+        found,
+        expected,
         nearest: None,
-        fix,
+        fix: if_short(fix),
     })
 }
 
