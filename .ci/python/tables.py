@@ -249,7 +249,7 @@ class Checked(Rows):
             return None if (came.status, told[-1]["faults"]) == (0, 0) else "status %d" % came.status
         parts = [own[0]["fault"], "at " + ".".join(str(step) for step in own[0]["path"]) if own[0]["path"] else "at the line"]
         parts += ["found " + own[0]["found"], "expected " + own[0]["expected"]]
-        return "; ".join(parts + ["fix " + own[0]["fix"]] * (own[0]["fix"] is not None))
+        return "; ".join(parts + (["fix " + own[0]["fix"]] if own[0]["fix"] else []))
 
     def tried(self):
         answers = [self.answer(row) for _, row in self.rows]

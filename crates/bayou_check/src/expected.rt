@@ -29,6 +29,8 @@ pub enum Expected {
     NoBlank,
     #[error("at most 127 arrays and objects within one another")]
     Shallow,
+    #[error("a number without zeros before it")]
+    NoZero,
     #[error("one JSON array")]
     Json,
     // Lines of another shape.
@@ -101,9 +103,9 @@ pub enum Expected {
     OpenSession(u8),
     #[error("a session that isn't open yet")]
     NewSession,
-    #[error("lines of a script; this is one of an audit file (bayou audit)")]
+    #[error("a line of a script; bayou audit takes those of audit files")]
     OnlyScript,
-    #[error("lines of an audit file; this is one of a script (bayou run)")]
+    #[error("a line of an audit file; bayou run takes those of scripts")]
     OnlyAudit,
     #[error("a vector with one count for each server: {0}")]
     Counts(u8),

@@ -25,6 +25,8 @@ pub enum Found {
     Blank,
     #[error("arrays or objects more than 127 within one another")]
     Deep,
+    #[error("a number that begins with 0")]
+    Zero,
     #[error("what is no JSON from here on")]
     NoJson,
     // Members.
@@ -38,7 +40,7 @@ pub enum Found {
     /// A text with a byte that no key has, the place of it from 1 on.
     #[error("{json}, whose byte {at} no key has")]
     BadByte { json: String, at: usize },
-    #[error("{0} members")]
+    #[error("{} {}", .0, member_word(.0))]
     Members(usize),
     #[error("{0} in the list")]
     Listed(usize),
@@ -63,11 +65,23 @@ pub enum Found {
     AuditLine,
     #[error("a line of a script")]
     ScriptLine,
-    #[error("a vector of {told} counts; line {line} says {count} servers")]
+    #[error("a vector of {told} {}; line {line} says {count} {}", count_word(.told), server_word(.count))]
     Counts { told: u8, count: u8, line: u64 },
     #[error("one more")]
     OneMore,
     /// Of which no more is known.
     #[error("what isn't one")]
     Other,
+}
+
+fn member_word(count: &usize) -> &'static str {
+    if *count == 1 { "member" } else { "members" }
+}
+
+fn count_word(count: &u8) -> &'static str {
+    if *count == 1 { "count" } else { "counts" }
+}
+
+fn server_word(count: &u8) -> &'static str {
+    if *count == 1 { "server" } else { "servers" }
 }

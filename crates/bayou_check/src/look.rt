@@ -93,10 +93,27 @@ fn look_entry(alloc: Global, members: &[Json]) -> Looked {
     miscounted(alloc, members, expected)
 }
 
+// A line that begins with no word: perhaps it is an array of lines, and may be meant as the only one of them.
+fn look_unheaded(alloc: Global, json: &Json) -> Looked {
+    let Some([first, others @ ..]) = json.as_array().map(Vec::as_slice) else {
+        return misshapen(alloc, json, Expected::Array);
+    };
+    if !first.is_array() {
+        return misshapen(alloc, json, Expected::Array);
+    }
+    let looked = misshapen(alloc, json, Expected::NoArrayOfAll)?;
+    let instead = if others.is_empty() {
+        Some(first.to_string(alloc)?)
+    } else {
+        None
+    };
+    Ok(looked.map(|mistake| mistake.or(instead)))
+}
+
 /// Looks at the JSON of a line of a text of this kind: what is wrong first, if anything is.
 pub(crate) fn look_line(alloc: Global, kind: Kind, json: &Json) -> Looked {
     let Some((word, members)) = headed(json) else {
-        return misshapen(alloc, json, Expected::Array);
+        return look_unheaded(alloc, json);
     };
     if word == "entry" {
         return look_entry(alloc, members);

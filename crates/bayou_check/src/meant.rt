@@ -1,7 +1,6 @@
 //! Lines that a line with a fault may be meant as.
-ghost use Rattle.std.specs.Prelude.{string_bytes};
-ghost use Rattle.bayou_text.specs.Said.{Said};
-ghost use Rattle.bayou_text.specs.Table.{Spells};
+ghost use Rattle.std.specs.Prelude.{IsOk, string_bytes};
+ghost use Rattle.bayou_text.specs.Lines.{line_of};
 
 use bayou_text::read_line;
 use std::alloc::{AllocError, Global};
@@ -10,7 +9,7 @@ use std::alloc::{AllocError, Global};
 #[derive(Debug, Drop)]
 pub struct Meant {
     pub line: String,
-    pub ghost read: { (said : Said) × Spells (string_bytes line) said },
+    pub ghost read: { IsOk (line_of (string_bytes line)) },
 }
 
 impl Meant {

@@ -78,6 +78,28 @@ fn closed(alloc: Global, text: &str) -> Result<Option<Meant>, AllocError> {
     Ok(None)
 }
 
+// The line with a brace closed that the last bracket closes in vain.
+fn with_brace(alloc: Global, text: &str) -> Result<Option<Meant>, AllocError> {
+    match text.trim_end().strip_suffix(']') {
+        Some(front) => Meant::of(alloc, with_end(alloc, front, "}]")?),
+        None => Ok(None),
+    }
+}
+
+// The line without the byte that stands there.
+fn without_byte(alloc: Global, text: &str, at: usize) -> Result<Option<Meant>, AllocError> {
+    let (Some(front), Some(back)) = (text.get(..at), text.get(at.saturating_add(1)..)) else {
+        return Ok(None);
+    };
+    Meant::of(alloc, format!(in alloc; "{front}{back}")?)
+}
+
+// Whether a 0 stands there before a digit.
+fn is_zero_before(bytes: &[u8], at: usize) -> bool {
+    let behind = bytes.get(at.saturating_add(1));
+    bytes.get(at) == Some(&b'0') && behind.is_some_and(u8::is_ascii_digit)
+}
+
 // The line up to where a bracket closes the first one.
 fn without_rest(alloc: Global, text: &str) -> Result<Option<Meant>, AllocError> {
     let Some((front, _)) = text.rsplit_once(']') else {
@@ -109,6 +131,7 @@ fn fault_at(alloc: Global, text: &str) -> Result<usize, AllocError> {
     match Json::from_str(alloc, text) {
         Ok(_) => Ok(0),
         Err(fault) if fault.is_memory() => Err(AllocError),
+        Err(fault) if fault.is_eof() => Ok(text.len()),
         Err(fault) => Ok(fault.column().saturating_sub(1)),
     }
 }
@@ -168,12 +191,25 @@ fn told_within(alloc: Global, text: &str) -> Result<NoJson, AllocError> {
         let fix = Meant::of(alloc, with_double_quotes(alloc, text)?)?;
         return Ok(NoJson { fix, ..told });
     }
+    told_at(alloc, text, at)
+}
+
+// A mistake that only the place tells where JSON ends.
+fn told_at(alloc: Global, text: &str, at: usize) -> Result<NoJson, AllocError> {
+    let behind = at.saturating_add(1);
     if at >= text.trim_end().len() {
         let told = no_json(Found::Open, Expected::Closed, at, text.len());
         let fix = closed(alloc, text)?;
         return Ok(NoJson { fix, ..told });
     }
-    Ok(no_json(Found::NoJson, Expected::Json, at, at.saturating_add(1)))
+    if is_zero_before(text.as_bytes(), at) {
+        let told = no_json(Found::Zero, Expected::NoZero, at, behind);
+        let fix = without_byte(alloc, text, at)?;
+        return Ok(NoJson { fix, ..told });
+    }
+    let told = no_json(Found::NoJson, Expected::Json, at, behind);
+    let fix = with_brace(alloc, text)?;
+    Ok(NoJson { fix, ..told })
 }
 
 fn is_json(alloc: Global, text: &str) -> bool {
