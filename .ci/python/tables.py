@@ -16,7 +16,8 @@ import tempfile
 TOP = os.path.normpath(os.path.join(os.path.dirname(os.path.abspath(__file__)), "../../tests"))
 PROBE = os.path.join(TOP, "../crates/bayou_probe/out/bayou_probe")
 # What the program is called with in each folder, where a case says no words of its own; {} is a copy of the case, and {dir} a new folder.
-CALLS = {"run": ["run"], "audit": ["audit", "{}"], "net": ["net", "--dir", "{dir}", "{}"]}
+CALLS = {"run": ["run"], "audit": ["audit", "{}"], "net": ["net", "--dir", "{dir}", "{}"],
+         "check": ["check", "-"]}
 CASES = (".jsonl", ".pieces", ".stdin", ".txt")
 # The most that one call may take, in seconds.
 PATIENCE = 120
