@@ -82,7 +82,7 @@ def least(tries):
 
 def forms(tries):
     """What people are told is what programs are."""
-    rows = tables.Checked(None, os.path.join(TOP, "check", "mistakes.rows"), False)
+    rows = tables.Checked(None, os.path.join(TOP, "check", "script-mistakes.rows"), False)
     text = b"".join(rows.line_of(row) + b"\n" for _, row in rows.rows)
     text = rows.before.encode() + text
     told, last, _ = tries.objects(text)

@@ -9,8 +9,8 @@ mod progress;
 
 use bayou_connect::Input;
 use bayou_shell::{
-    Errand, Files, refuse_words, run_checked, run_connected, run_exported, run_imported, run_key, run_main,
-    run_net, run_renewed, run_served, tell_device,
+    Errand, Files, refuse_words, run_checked, run_connected, run_exported, run_imported, run_key,
+    run_main, run_net, run_renewed, run_served, tell_device,
 };
 use bayou_streams::{CountedChannel, Output};
 use more::{More, tell_more};
@@ -144,8 +144,8 @@ fn run<
         &mut errors,
     );
     if let Errand::Done(status) = errand {
-        let is_alone = screen.lock(rt).has_one_line() && told.is_terminal();
-        tell_more(&files.more, words, status, is_alone, &mut errors);
+        let is_refused = screen.lock(rt).is_refused() && told.is_terminal();
+        tell_more(&files.more, words, status, is_refused, &mut errors);
         return status;
     }
     match errand {

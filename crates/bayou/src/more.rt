@@ -8,9 +8,6 @@ use std::io::Write;
 /// The commands whose texts `bayou check` looks at.
 const CHECKED: [&str; 3] = ["run", "net", "audit"];
 
-/// The exit status of a text that is refused.
-const REFUSED: u8 = 2;
-
 /// The exit status of an input that can't be read.
 const FAILED: u8 = 3;
 
@@ -70,19 +67,26 @@ fn write_parts<E: Write>(errors: &mut Output<E>, parts: &[&str]) {
     }
 }
 
-/// Tells more of what ended with this status: why a file can't be read; and at a terminal, where the line of a fault stands alone, what tells more
-/// of the text's faults.
+/// Tells more of what ended with this status: why a file can't be read; and at a terminal, where a text was refused for a line, what tells more
+/// of its faults.
 pub fn tell_more<S: AsStr, E: Write>(
     more: &More,
     words: &[S],
     status: u8,
-    is_alone: bool,
+    is_refused: bool,
     errors: &mut Output<E>,
 ) {
     if let (Some(line), FAILED) = (&more.refused, status) {
         write_parts(errors, &[line.as_str()]);
-    } else if status == REFUSED && is_alone && is_checked(words) {
+    } else if is_refused && is_checked(words) {
         let name = more.name();
-        write_parts(errors, &["  bayou check ", name, " says where, and what was expected\n"]);
+        write_parts(
+            errors,
+            &[
+                "  bayou check ",
+                name,
+                " says where, and what was expected\n",
+            ],
+        );
     }
 }

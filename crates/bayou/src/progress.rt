@@ -18,6 +18,9 @@ const LOOK_MILLISECONDS: u64 = 20;
 /// What clears the line of a terminal.
 const CLEAR: &str = "\r\x1b[K";
 
+/// What the fault of a line of a text begins with.
+const LINE_FAULT: &[u8] = b"bayou: line ";
+
 /// Whether progress is due, where a line was last printed or told of at `last`.
 fn is_due(now: Duration, last: Duration) -> bool
     ensures { result ≡ true ↔ as_nanos last + 1000000000 ≤ as_nanos now }
@@ -50,6 +53,8 @@ pub struct Screen<E> {
     is_over: bool,
     /// Whether who reads the output has gone.
     is_cut: bool,
+    /// Whether the fault of a line of a text was told.
+    is_refused: bool,
 }
 
 impl<E: Write> Screen<E> {
@@ -68,6 +73,7 @@ impl<E: Write> Screen<E> {
             is_shown: false,
             is_over: false,
             is_cut: false,
+            is_refused: false,
         }
     }
 
@@ -90,11 +96,16 @@ impl<E: Write> Screen<E> {
         self.is_over = true;
     }
 
-    /// Whether one line was printed or told, and no more.
-    pub fn has_one_line(&self) -> bool
-        ensures { result ≡ true ↔ self.now.printed ≡ 1 }
+    /// Whether the fault of a line of a text was told.
+    pub fn is_refused(&self) -> bool
+        ensures { result ≡ self.now.is_refused }
     {
-        self.printed == 1
+        self.is_refused
+    }
+
+    // Notes whether this tells the fault of a line of a text.
+    fn note(&mut self, text: &[u8]) {
+        self.is_refused = self.is_refused || text.starts_with(LINE_FAULT);
     }
 
     // Whether this says that the output is at fault, where only its reader has gone: as other tools do, that is told by the status alone.
@@ -188,6 +199,7 @@ impl<W: Write, E: Write, T: Wait> Write for Counted<'_, W, E, T> {
         }
         match self.writer.write(buf) {
             Ok(count) => {
+                screen.note(buf);
                 screen.count(&buf[..count]);
                 Ok(count)
             }

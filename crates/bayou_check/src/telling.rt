@@ -206,7 +206,7 @@ pub(crate) fn tell(
     faulty: Faulty<'_>,
     mistake: Option<Mistake>,
 ) -> Result<Told, AllocError>
-    ensures { IfOk result (λ told. (told.line ≡ faulty.number) × (told.fault ≡ faulty.fault)) }
+    ensures { IfOk result (λ told. (told.line ≡ faulty.entry.number) × (told.fault ≡ faulty.entry.fault)) }
 {
     let finding = finding_of(alloc, faulty, mistake)?;
     let window = shown_part(alloc, faulty.bytes, finding.span)?;

@@ -27,11 +27,11 @@ mod renewing;
 mod serve;
 mod serving;
 
+use check::{check_command, checking_in};
+pub use checking::Checking;
 use clap::builder::ValueParser;
 use clap::error::ErrorKind;
 use clap::{Arg, ArgMatches, Command, Error};
-use check::{check_command, checking_in};
-pub use checking::Checking;
 use connect::{connect_command, connecting_in};
 pub use connecting::Connecting;
 use export::{export_command, exporting_in};

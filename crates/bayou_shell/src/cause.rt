@@ -34,7 +34,9 @@ fn content_cause(
     if held <= u64::from(limit) {
         return Ok(None);
     }
-    Ok(Some(format!(in alloc; "  {path}: it has {held} Writes, more than the {limit} that `servers` lets a server hold\n")?))
+    Ok(Some(format!(in alloc;
+        "  {path}: it has {held} Writes, more than the {limit} that `servers` lets a server hold\n"
+    )?))
 }
 
 // What is wrong with the journal of this server, if something is.
@@ -55,12 +57,16 @@ fn journal_cause<T: fs::Files<File = File>>(
     let file = match both.open(rt, path.as_str()) {
         Ok(file) => file,
         Err(error) if error.kind() == ErrorKind::NotFound => {
-            return Ok(Some(format!(in alloc; "  {path}: it can't be made; look at the rights of the folder, and at the disk\n")?));
+            return Ok(Some(format!(in alloc;
+                "  {path}: it can't be made; look at the rights of the folder, and at the disk\n"
+            )?));
         }
         Err(error) => return Ok(Some(format!(in alloc; "  {path}: {error}\n")?)),
     };
     if file.try_lock().is_err() {
-        return Ok(Some(format!(in alloc; "  {path}: another run, or a server that lives, has it\n")?));
+        return Ok(Some(format!(in alloc;
+            "  {path}: another run, or a server that lives, has it\n"
+        )?));
     }
     content_cause(alloc, path.as_str(), id, servers, file)
 }

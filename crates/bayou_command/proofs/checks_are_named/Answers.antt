@@ -33,4 +33,3 @@ returns-clause-two_files c = refl
 pub returns-clause-no_option : goal.returns-clause-no_option
 unfolding clap_on_literals
 returns-clause-no_option c = refl
-
