@@ -11,7 +11,7 @@ use std::fs;
 use std::fs::{File, OpenOptions};
 use std::io::{ErrorKind, Write};
 
-// What is wrong with a journal that can be read, if something is. Where it is damaged the run has told so.
+// What is wrong with a journal that can be read, if something is.
 fn content_cause(
     alloc: Global,
     path: &str,
@@ -23,7 +23,6 @@ fn content_cause(
     let server = match copied(alloc, id, servers.count, &mut device) {
         Ok(server) => server,
         Err(ReadingFault::Memory) => return Err(AllocError),
-        Err(ReadingFault::Damaged(_)) => return Ok(None),
         Err(fault) => return Ok(Some(format!(in alloc; "  {path}: {fault}\n")?)),
     };
     let mut held: u64 = 0;
@@ -39,7 +38,7 @@ fn content_cause(
     )?))
 }
 
-// What is wrong with the journal of this server, if something is.
+// What is wrong with the journal of this server, if it is there and something is.
 fn journal_cause<T: fs::Files<File = File>>(
     rt: &T,
     alloc: Global,
@@ -56,11 +55,7 @@ fn journal_cause<T: fs::Files<File = File>>(
     both.write(true);
     let file = match both.open(rt, path.as_str()) {
         Ok(file) => file,
-        Err(error) if error.kind() == ErrorKind::NotFound => {
-            return Ok(Some(format!(in alloc;
-                "  {path}: it can't be made; look at the rights of the folder, and at the disk\n"
-            )?));
-        }
+        Err(error) if error.kind() == ErrorKind::NotFound => return Ok(None),
         Err(error) => return Ok(Some(format!(in alloc; "  {path}: {error}\n")?)),
     };
     if file.try_lock().is_err() {
@@ -69,6 +64,24 @@ fn journal_cause<T: fs::Files<File = File>>(
         )?));
     }
     content_cause(alloc, path.as_str(), id, servers, file)
+}
+
+// That the first of the journals that aren't there can't be made, if one isn't.
+fn missing_cause<T: fs::Files<File = File>>(
+    rt: &T,
+    alloc: Global,
+    folder: &str,
+    servers: Servers,
+) -> Result<Option<String>, AllocError> {
+    for number in 0..servers.count {
+        let path = format!(in alloc; "{folder}/server-{number}.journal")?;
+        if fs::metadata(rt, path.as_str()).is_err() {
+            return Ok(Some(format!(in alloc;
+                "  {path}: it can't be made; look at the rights of the folder, and at the disk\n"
+            )?));
+        }
+    }
+    Ok(None)
 }
 
 // What is wrong with the folder, if something is.
@@ -104,7 +117,7 @@ fn cause<T: fs::Files<File = File>>(
             return Ok(found);
         }
     }
-    Ok(None)
+    missing_cause(rt, alloc, folder, servers)
 }
 
 /// Tells in a line what is wrong with the folder or the journals of these servers, where something is found. What a file has no clause can say.
