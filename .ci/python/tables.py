@@ -129,7 +129,7 @@ class Case:
 
     def texts(self, came):
         told = []
-        for kind, found in ((".out", came.out), (".err", came.err)):
+        for kind, found in ((".out", came.out), (".err", came.err.replace(came.folder.encode(), b"{dir}"))):
             part = read(self.base + kind + ".has", None)
             if part is None:
                 told += self.differs(self.base + kind, found, read(self.base + kind))
