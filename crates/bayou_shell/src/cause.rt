@@ -66,7 +66,7 @@ fn journal_cause<T: fs::Files<File = File>>(
     content_cause(alloc, path.as_str(), id, servers, file)
 }
 
-// That the first of the journals that aren't there can't be made, if one isn't.
+// That the first of the journals that aren't there perhaps can't be made, if one isn't there: a run makes it.
 fn missing_cause<T: fs::Files<File = File>>(
     rt: &T,
     alloc: Global,
@@ -77,7 +77,7 @@ fn missing_cause<T: fs::Files<File = File>>(
         let path = format!(in alloc; "{folder}/server-{number}.journal")?;
         if fs::metadata(rt, path.as_str()).is_err() {
             return Ok(Some(format!(in alloc;
-                "  {path}: it can't be made; look at the rights of the folder, and at the disk\n"
+                "  {path}: it isn't there, and perhaps can't be made; look at the rights of the folder, and at the disk\n"
             )?));
         }
     }
