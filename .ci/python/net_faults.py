@@ -25,10 +25,14 @@ LOGS = script(["servers", 2], ["log", 0], ["log", 1])
 NOTHING = "totals reads 0 writes 0 refusals 0 slips 0\n"
 
 
-def run(*words, **others):
-    """A run, without the line that names the cause of its fault."""
-    status, output, errors = net_runs.run(*words, **others)
+def without_cause(told):
+    """What a run came to, without the line that names the cause of its fault."""
+    status, output, errors = told
     return status, output, CAUSE.sub(r"\1", errors)
+
+
+def run(*words, **others):
+    return without_cause(net_runs.run(*words, **others))
 
 
 def settled(count):
@@ -70,7 +74,7 @@ def folders(checks, program, room):
         os.chmod(own, 0o755)
         os.chmod(room, 0o755)
     told = net_runs.call(own if is_root else program, ["net", "--dir", closed], ONE, before=as_nobody if is_root else None)
-    checks.that("a folder that can't be written", told, DEVICE)
+    checks.that("a folder that can't be written", without_cause(told), DEVICE)
     checks.that("what is in it", os.listdir(closed), [])
 
 

@@ -29,9 +29,6 @@ use std::{array, env, fs, io, thread};
 /// How many standard streams there are: input, output and errors.
 const STREAMS: usize = 3;
 
-/// The exit status of a fault that is no refusal.
-const FAILED: u8 = 3;
-
 /// Which gives nothing and takes all.
 const NULL_DEVICE: &str = "/dev/null";
 
@@ -161,7 +158,7 @@ fn run<
                 &mut errors,
                 &mut Output::new(Counted::new(told, rt, screen)),
             );
-            if status == FAILED {
+            if screen.lock(rt).is_unbegun() {
                 tell_device(rt, alloc, folder.as_str(), servers, &mut errors);
             }
             status

@@ -55,6 +55,8 @@ pub struct Screen<E> {
     is_cut: bool,
     /// Whether the fault of a line of a text was told.
     is_refused: bool,
+    /// Whether it was told that servers didn't begin.
+    is_unbegun: bool,
 }
 
 impl<E: Write> Screen<E> {
@@ -74,6 +76,7 @@ impl<E: Write> Screen<E> {
             is_over: false,
             is_cut: false,
             is_refused: false,
+            is_unbegun: false,
         }
     }
 
@@ -103,9 +106,17 @@ impl<E: Write> Screen<E> {
         self.is_refused
     }
 
-    // Notes whether this tells the fault of a line of a text.
+    /// Whether it was told that servers didn't begin.
+    pub fn is_unbegun(&self) -> bool
+        ensures { result ≡ self.now.is_unbegun }
+    {
+        self.is_unbegun
+    }
+
+    // Notes whether this tells the fault of a line of a text, or that servers didn't begin.
     fn note(&mut self, text: &[u8]) {
         self.is_refused = self.is_refused || text.starts_with(LINE_FAULT);
+        self.is_unbegun = self.is_unbegun || matches!(text, b"bayou: device\n");
     }
 
     // Whether this says that the output is at fault, where only its reader has gone: as other tools do, that is told by the status alone.
