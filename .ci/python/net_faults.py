@@ -1,6 +1,5 @@
 """Folders, journals, scripts and streams with which `bayou net` runs nothing, or drops what was torn."""
 import os
-import re
 import shutil
 import stat
 import threading
@@ -8,10 +7,8 @@ import threading
 import frames
 import net_runs
 import old_journals
-from net_runs import content, contents, fresh, journal, put, script
+from net_runs import content, contents, fresh, journal, put, run, script
 
-# The line behind a fault that names a file and its cause, which `.ci/check` looks at.
-CAUSE = re.compile(r"(bayou: (?:device|input)\n)  [^\n]+\n$")
 DEVICE = (3, "", "bayou: device\n")
 # How many bytes a journal's header has.
 HEADER = 10
@@ -23,16 +20,6 @@ TWO = script(["servers", 2], ["session", 0, []], ["write", 0, 0, put("a", 1)], [
 LOG = script(["servers", 1], ["log", 0])
 LOGS = script(["servers", 2], ["log", 0], ["log", 1])
 NOTHING = "totals reads 0 writes 0 refusals 0 slips 0\n"
-
-
-def without_cause(told):
-    """What a run came to, without the line that names the cause of its fault."""
-    status, output, errors = told
-    return status, output, CAUSE.sub(r"\1", errors)
-
-
-def run(*words, **others):
-    return without_cause(net_runs.run(*words, **others))
 
 
 def settled(count):
@@ -74,7 +61,7 @@ def folders(checks, program, room):
         os.chmod(own, 0o755)
         os.chmod(room, 0o755)
     told = net_runs.call(own if is_root else program, ["net", "--dir", closed], ONE, before=as_nobody if is_root else None)
-    checks.that("a folder that can't be written", without_cause(told), DEVICE)
+    checks.that("a folder that can't be written", told, DEVICE)
     checks.that("what is in it", os.listdir(closed), [])
 
 
