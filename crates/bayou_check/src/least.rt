@@ -1,7 +1,9 @@
 //! The least line with a fault, by the reader that runs and audits have.
-ghost use Rattle.std.specs.Prelude.{◌≡◌, IfOk, MatchOption};
-ghost use Rattle.bayou_script.specs.Order.{IsRefusedBy, RefusedBy, lines_of};
+ghost use Rattle.std.specs.Prelude.{◌≡◌, ℕ, IfOk, List};
+ghost use Rattle.bayou_script.specs.Order.{lines_of};
+ghost use Rattle.bayou_script.specs.Reading.{HasReadBy};
 ghost use Rattle.bayou_script.specs.declared.fault.InputRefusal.TheVariants.{Line};
+ghost use Rattle.bayou_check.specs.Least.{Checks};
 
 use bayou_script::{Front, InputRefusal, ScriptFault, TextReader};
 use std::alloc::{AllocError, Global};
@@ -24,7 +26,9 @@ fn least_of(refusal: InputRefusal) -> Result<Least, AllocError>
 }
 
 // The same of a text that was read to its end.
-fn at_end<F: Front>(alloc: Global, reader: TextReader<F>) -> Result<Option<Least>, AllocError> {
+fn at_end<F: Front>(alloc: Global, reader: TextReader<F>) -> Result<Option<Least>, AllocError>
+    ensures { (bytes : List ℕ) → HasReadBy F.order F.keeps reader bytes → IfOk result (Checks F.order F.says (lines_of bytes)) }
+{
     match reader.finish(alloc) {
         Ok(_) => Ok(None),
         Err(refusal) => Ok(Some(least_of(refusal)?)),
@@ -33,7 +37,7 @@ fn at_end<F: Front>(alloc: Global, reader: TextReader<F>) -> Result<Option<Least
 
 /// The least line with a fault of a text of this kind, or none where the text is of this kind.
 pub fn least_fault<F: Front>(alloc: Global, text: &[u8]) -> Result<Option<Least>, AllocError>
-    ensures { IfOk result (λ least. MatchOption least ((told : F.Text) × F.says (lines_of text.now) told) (λ least. IsRefusedBy F.order (lines_of text.now) least.number least.fault)) }
+    ensures { IfOk result (Checks F.order F.says (lines_of text.now)) }
 {
     let mut reader = TextReader::<F>::new(alloc);
     match reader.feed(alloc, text) {

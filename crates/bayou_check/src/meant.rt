@@ -2,7 +2,7 @@
 ghost use Rattle.std.specs.Prelude.{IsOk, string_bytes};
 ghost use Rattle.bayou_text.specs.Lines.{line_of};
 
-use bayou_text::read_line;
+use bayou_text::{LineFault, read_line};
 use std::alloc::{AllocError, Global};
 
 /// A line that is read.
@@ -21,6 +21,7 @@ impl Meant {
     {
         match read_line(alloc, line.as_bytes()) {
             Ok(_) => Ok(Some(Meant { line })),
+            Err(LineFault::OutOfMemory) => Err(AllocError),
             Err(_) => Ok(None),
         }
     }

@@ -45,15 +45,13 @@ fn with_double_quotes(alloc: Global, text: &str) -> Result<String, AllocError> {
 // The line without each comma that a bracket or nothing follows.
 fn without_commas(alloc: Global, text: &str) -> Result<String, AllocError> {
     let mut mended = String::new(alloc);
-    let mut waiting = "";
+    let mut is_waiting = false;
     for character in text.trim().chars() {
-        if !matches!(character, ']' | '}') {
-            mended.push_str(waiting)?;
+        if is_waiting && !matches!(character, ']' | '}') {
+            mended.push(',')?;
         }
-        waiting = "";
-        if character == ',' {
-            waiting = ",";
-        } else {
+        is_waiting = character == ',';
+        if !is_waiting {
             mended.push(character)?;
         }
     }
@@ -174,7 +172,10 @@ fn told_within(alloc: Global, text: &str) -> Result<NoJson, AllocError> {
     let bytes = text.as_bytes();
     let at = fault_at(alloc, text)?;
     let front = bytes.get(..at).unwrap_or(bytes);
-    let is_whole = str::from_utf8(front).is_ok_and(|front| is_json(alloc, front));
+    let is_whole = match str::from_utf8(front) {
+        Ok(front) => is_json(alloc, front)?,
+        Err(_) => false,
+    };
     if is_whole {
         return behind(alloc, text, at);
     }
@@ -212,8 +213,12 @@ fn told_at(alloc: Global, text: &str, at: usize) -> Result<NoJson, AllocError> {
     Ok(NoJson { fix, ..told })
 }
 
-fn is_json(alloc: Global, text: &str) -> bool {
-    Json::from_str(alloc, text).is_ok()
+fn is_json(alloc: Global, text: &str) -> Result<bool, AllocError> {
+    match Json::from_str(alloc, text) {
+        Ok(_) => Ok(true),
+        Err(fault) if fault.is_memory() => Err(AllocError),
+        Err(_) => Ok(false),
+    }
 }
 
 /// What is wrong with the line, which is no JSON.
