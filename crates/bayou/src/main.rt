@@ -140,26 +140,27 @@ fn run<
         &mut output,
         &mut errors,
     );
-    if let Errand::Done(status) = errand {
-        let is_refused = screen.lock(rt).is_refused() && told.is_terminal();
-        tell_more(&files.more, words, status, is_refused, &mut errors);
-        return status;
-    }
     match errand {
-        Errand::Done(status) => status,
+        Errand::Done(status) => {
+            let is_refused = screen.lock(rt).is_refused() && told.is_terminal();
+            tell_more(&files.more, words, status, is_refused, &mut errors);
+            status
+        }
         Errand::Net { folder, script } => {
+            let mut told = Output::new(Counted::new(told, rt, screen));
             let servers = script.servers;
+            let folder = folder.as_str();
             let status = run_net(
                 rt,
                 alloc,
-                folder.as_str(),
+                folder,
                 script,
                 &mut output,
                 &mut errors,
-                &mut Output::new(Counted::new(told, rt, screen)),
+                &mut told,
             );
             if screen.lock(rt).is_unbegun() {
-                tell_device(rt, alloc, folder.as_str(), servers, &mut errors);
+                tell_device(rt, alloc, folder, servers, &mut errors);
             }
             status
         }

@@ -30,7 +30,7 @@ pub struct Mistake {
     pub instead: Option<String>,
 }
 
-/// Where something stands in a line, in bytes.
+/// Where something stands in a text, from 0 on: from its first byte or character to behind its last.
 #[derive(Clone, Copy, Debug, PartialEq, Eq)]
 pub struct Span {
     pub start: usize,
@@ -45,7 +45,7 @@ pub struct Told {
     pub fault: ScriptFault,
     /// The line itself, as far as it is shown.
     pub text: String,
-    /// The first character of `text` that is at fault, from 0 on, and how many are.
+    /// Which characters of `text` are at fault.
     pub mark: Span,
     /// In which character of the whole line that is, from 1 on.
     pub column: usize,
