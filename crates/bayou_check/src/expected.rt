@@ -3,118 +3,66 @@ use crate::forms::Form;
 use crate::kind::Kind;
 use crate::page::Page;
 use crate::parts::{List, Part};
-use thiserror::Error;
+use std::fmt;
 
 /// What is expected in place of what was found.
-#[derive(Clone, Copy, Debug, PartialEq, Eq, Error)]
+#[derive(Clone, Copy, Debug, PartialEq, Eq)]
 pub enum Expected {
     // Lines that are no JSON.
-    #[error("a line of JSON in UTF-8")]
     Utf8,
-    #[error("a file without a byte order mark")]
     NoMark,
-    #[error("no comment: scripts and audit files have none")]
     NoComment,
-    #[error("double quotes around a text")]
     DoubleQuotes,
-    #[error("one array in each line, and not one array of all lines")]
     NoArrayOfAll,
-    #[error("no comma behind the last member, nor behind the line")]
     NoComma,
-    #[error("a bracket for each one that is opened")]
     Closed,
-    #[error("nothing behind the array")]
     NothingBehind,
-    #[error("a blank line of no byte: save the file with line feeds alone")]
     NoBlank,
-    #[error("at most 127 arrays and objects within one another")]
     Shallow,
-    #[error("a number without zeros before it")]
     NoZero,
-    #[error("one JSON array")]
     Json,
     // Lines of another shape.
-    #[error("a line of at most 65536 bytes")]
     ShortLine,
-    #[error("an array that begins with a word, as [\"log\",0]")]
     Array,
-    #[error("{}", .0.words())]
     Command(Kind),
-    #[error("{0}")]
     Members(Form),
-    #[error("[\"entry\",SESSION,PLACE,ASKS,SERVER,..] with \"refused\", with \"read\",KEY,VECTOR or with \"write\",SEQ,CLOCK,VECTOR")]
     EntryMembers,
-    #[error("{0}")]
     Number(Part),
-    #[error("{0}, without quotes")]
     Unquoted(Part),
-    #[error("a key: a text of 1 to 32 bytes of a-z 0-9 . _ - /")]
     Key,
-    #[error("a prefix: a text of up to 32 bytes of a-z 0-9 . _ - /")]
     Prefix,
-    #[error("a value: a whole number, or a text of up to 32 bytes")]
     Value,
-    #[error("a list of what the session asks for: any of \"ryw\", \"mr\", \"wfr\", \"mw\"")]
     Asks,
-    #[error("\"ryw\", \"mr\", \"wfr\" or \"mw\"")]
     Ask,
-    #[error("a vector: a list of 1 to 16 counts, one for each server")]
     Vector,
-    #[error("the Write in a list of its own: [ORIGIN,SEQ,CLOCK,VECTOR,PROGRAM]")]
     HeldWrite,
-    #[error("\"{}\", as this line has {} members", .0, .1)]
     EntryWord(&'static str, usize),
-    #[error("a program, as {{\"update\":[[\"put\",KEY,VALUE]]}}")]
     Program,
-    #[error("\"check\", \"update\" or \"merge\" as a member of a program")]
     ProgramMember,
-    #[error("an alternative, as {{\"when\":[[\"absent\",KEY]],\"ops\":[[\"put\",KEY,VALUE]]}}")]
     Alternative,
-    #[error("\"when\" or \"ops\" as a member of an alternative")]
     AlternativeMember,
-    #[error("{}", .0.example())]
     Listed(List),
-    #[error("at most {} {} in a list; use two Writes", .0.most(), .0)]
     Fewer(List),
-    #[error("an op in a list of its own: [\"put\",KEY,VALUE] or [\"del\",KEY]")]
     Op,
-    #[error("\"put\" or \"del\" as the first member of an op")]
     OpWord,
-    #[error("a condition in a list of its own, as [\"absent\",KEY]")]
     Condition,
-    #[error("\"equals\", \"absent\", \"atleast\" or \"atmost\" as the first member of a condition")]
     ConditionWord,
-    #[error("[\"copy\",KEY] or [\"plus\",KEY,NUMBER], or a value")]
     Term,
-    #[error("\"copy\" or \"plus\" as the first member of a term")]
     TermWord,
     // Lines that are out of place.
-    #[error("a line that says something; the first is [\"servers\",N]")]
     SomeLine,
-    #[error("[\"servers\",N] as the first line")]
     ServersFirst,
-    #[error("one line [\"servers\",N], the first")]
     ServersOnce,
-    #[error("one of the servers that are started")]
     StartedServer,
-    #[error("another server to pull from")]
     OtherServer,
-    #[error("a session that is opened first, by [\"session\",{0},[]]")]
     OpenSession(u8),
-    #[error("a session that isn't open yet")]
     NewSession,
-    #[error("a line of a script; bayou audit takes those of audit files")]
     OnlyScript,
-    #[error("a line of an audit file; bayou run takes those of scripts")]
     OnlyAudit,
-    #[error("a vector with one count for each server: {0}")]
     Counts(u8),
-    #[error("at most 65536 lines")]
     FewLines,
-    #[error("at most 65536 entries")]
     FewEntries,
     /// Another shape, of which no more is known.
-    #[error("a line as docs/FORMATS.md has it")]
     Other,
 }
 
@@ -161,6 +109,109 @@ impl Expected {
             | Expected::FewLines => Page::Script,
             Expected::Command(_) => Page::Commands,
             _ => Page::Lines,
+        }
+    }
+
+    fn json_text(self) -> &'static str {
+        match self {
+            Expected::Utf8 => "a line of JSON in UTF-8",
+            Expected::NoMark => "a file without a byte order mark",
+            Expected::NoComment => "no comment: scripts and audit files have none",
+            Expected::DoubleQuotes => "double quotes around a text",
+            Expected::NoArrayOfAll => "one array in each line, and not one array of all lines",
+            Expected::NoComma => "no comma behind the last member, nor behind the line",
+            Expected::Closed => "a bracket for each one that is opened",
+            Expected::NothingBehind => "nothing behind the array",
+            Expected::NoBlank => "a blank line of no byte: save the file with line feeds alone",
+            Expected::Shallow => "at most 127 arrays and objects within one another",
+            Expected::NoZero => "a number without zeros before it",
+            Expected::Json => "one JSON array",
+            Expected::ShortLine => "a line of at most 65536 bytes",
+            Expected::Array => "an array that begins with a word, as [\"log\",0]",
+            _ => self.shape_text(),
+        }
+    }
+
+    fn shape_text(self) -> &'static str {
+        match self {
+            Expected::EntryMembers =>
+                "[\"entry\",SESSION,PLACE,ASKS,SERVER,..] with \"refused\", with \"read\",KEY,VECTOR or with \"write\",SEQ,CLOCK,VECTOR",
+            Expected::Key => "a key: a text of 1 to 32 bytes of a-z 0-9 . _ - /",
+            Expected::Prefix => "a prefix: a text of up to 32 bytes of a-z 0-9 . _ - /",
+            Expected::Value => "a value: a whole number, or a text of up to 32 bytes",
+            Expected::Asks =>
+                "a list of what the session asks for: any of \"ryw\", \"mr\", \"wfr\", \"mw\"",
+            Expected::Ask => "\"ryw\", \"mr\", \"wfr\" or \"mw\"",
+            Expected::Vector => "a vector: a list of 1 to 16 counts, one for each server",
+            Expected::HeldWrite =>
+                "the Write in a list of its own: [ORIGIN,SEQ,CLOCK,VECTOR,PROGRAM]",
+            Expected::Program => "a program, as {\"update\":[[\"put\",KEY,VALUE]]}",
+            Expected::ProgramMember =>
+                "\"check\", \"update\" or \"merge\" as a member of a program",
+            Expected::Alternative =>
+                "an alternative, as {\"when\":[[\"absent\",KEY]],\"ops\":[[\"put\",KEY,VALUE]]}",
+            Expected::AlternativeMember => "\"when\" or \"ops\" as a member of an alternative",
+            Expected::Op => "an op in a list of its own: [\"put\",KEY,VALUE] or [\"del\",KEY]",
+            Expected::OpWord => "\"put\" or \"del\" as the first member of an op",
+            _ => self.program_text(),
+        }
+    }
+
+    fn program_text(self) -> &'static str {
+        match self {
+            Expected::Condition => "a condition in a list of its own, as [\"absent\",KEY]",
+            Expected::ConditionWord =>
+                "\"equals\", \"absent\", \"atleast\" or \"atmost\" as the first member of a condition",
+            Expected::Term => "[\"copy\",KEY] or [\"plus\",KEY,NUMBER], or a value",
+            Expected::TermWord => "\"copy\" or \"plus\" as the first member of a term",
+            Expected::SomeLine => "a line that says something; the first is [\"servers\",N]",
+            Expected::ServersFirst => "[\"servers\",N] as the first line",
+            Expected::ServersOnce => "one line [\"servers\",N], the first",
+            Expected::StartedServer => "one of the servers that are started",
+            Expected::OtherServer => "another server to pull from",
+            Expected::NewSession => "a session that isn't open yet",
+            Expected::OnlyScript => "a line of a script; bayou audit takes those of audit files",
+            Expected::OnlyAudit => "a line of an audit file; bayou run takes those of scripts",
+            Expected::FewLines => "at most 65536 lines",
+            Expected::FewEntries => "at most 65536 entries",
+            _ => self.place_text(),
+        }
+    }
+
+    fn place_text(self) -> &'static str {
+        match self {
+            Expected::Other => "a line as docs/FORMATS.md has it",
+            _ => "",
+        }
+    }
+}
+
+impl fmt::Display for Expected {
+    fn fmt<W: fmt::Write>(&self, f: &mut fmt::Formatter<W>) -> fmt::Result {
+        let expected = *self;
+        match expected {
+            Expected::Command(kind) => f.write_str(kind.words()),
+            Expected::Members(form) => f.write_str(form.text()),
+            Expected::Listed(list) => f.write_str(list.example()),
+            Expected::Number(part) => write!(f, "{part}"),
+            Expected::Unquoted(part) => write!(f, "{part}, without quotes"),
+            Expected::EntryWord(word, members) => {
+                write!(f, "\"{word}\", as this line has {members} members")
+            }
+            Expected::Fewer(list) => {
+                let most = list.most();
+                write!(f, "at most {most} {list} in a list; use two Writes")
+            }
+            Expected::OpenSession(session) => {
+                write!(
+                    f,
+                    "a session that is opened first, by [\"session\",{session},[]]"
+                )
+            }
+            Expected::Counts(count) => {
+                write!(f, "a vector with one count for each server: {count}")
+            }
+            other => f.write_str(other.json_text()),
         }
     }
 }

@@ -184,7 +184,7 @@ impl Form {
         }
     }
 
-    fn text(self) -> &'static str {
+    pub(crate) fn text(self) -> &'static str {
         match self {
             Form::Servers => r#"["servers",N] or ["servers",N,LIMIT]"#,
             Form::Session =>
