@@ -3,7 +3,7 @@ _bayou() {
     local word=${COMP_WORDS[COMP_CWORD]} before=${COMP_WORDS[COMP_CWORD - 1]} command='' words
     [ "$COMP_CWORD" -lt 2 ] || command=${COMP_WORDS[1]}
     case $command in
-        '') words='run net audit serve connect key renew export import help -h --help -V --version' ;;
+        '') words='run net audit serve connect key renew export import web help -h --help -V --version' ;;
         run | audit) words='-h --help' ;;
         net) words='--dir -h --help' ;;
         serve)
@@ -15,15 +15,16 @@ _bayou() {
         renew) words='--id --servers --dir --to --at --servers-then --without --full -h --help' ;;
         export) words='--server --servers --key --timeout --dir --id -h --help' ;;
         import) words='--server --servers --key --state --wait --timeout -h --help' ;;
-        help) words='run net audit serve connect key renew export import help' ;;
+        web) words='--server --servers --session --key --state --name --listen --timeout -h --help' ;;
+        help) words='run net audit serve connect key renew export import web help' ;;
         *) words='' ;;
     esac
     COMPREPLY=()
     if [[ $command$before == @(net|serve|renew|export)--dir || $command$before == renew--to ]]; then
         mapfile -t COMPREPLY < <(compgen -d -- "$word")
-    elif [[ $command$before == @(serve|export)--key ]]; then
+    elif [[ $command$before == @(serve|export|web)--key || $command$before == web--state ]]; then
         mapfile -t COMPREPLY < <(compgen -f -- "$word")
-    elif [[ $word == -* || -z $command || $command == @(help|serve|renew|export) ]]; then
+    elif [[ $word == -* || -z $command || $command == @(help|serve|renew|export|web) ]]; then
         mapfile -t COMPREPLY < <(compgen -W "$words" -- "$word")
     else
         mapfile -t COMPREPLY < <(compgen -f -- "$word")

@@ -14,6 +14,7 @@ import frames
 from checks import Checks
 from living import SECONDS, Lines, Server
 from meeting import free_port, soon
+from web_store import Store, Web
 
 TOP = os.path.abspath("..")
 sys.path.insert(0, os.path.join(TOP, "clients", "python"))
@@ -28,7 +29,6 @@ FORMS = {
     "docs/LANGUAGE.md": ['{"check": [condition, ..]'],
     "docs/NET.md": [".ci/net "],
     "docs/SERVE.md": ["ssh -N", "mkdir new", 'WORDS="', "apt install"],
-    "README.md": ["Kim: blue, else red"],
 }
 
 
@@ -264,6 +264,25 @@ class Tries:
         self.that("CONNECT: the import", told, imported[1:])
         self.that("CONNECT: a told end of the import's", empty.end()[0], 0)
 
+    def web(self):
+        page = self.pages["docs/WEB.md"]
+        call, link = page.take("$ bayou web").splitlines()
+        seen, done = page.take('{"name"'), page.take('{"lines"')
+
+        def form(text):
+            return re.sub("[0-9a-f]{32}", "TOKEN", re.sub(r"127\.0\.0\.1:[0-9]+", "PLACE", text))
+
+        def names(text):
+            return sorted(set(re.findall(r'"(\w+)":', text)))
+        folder = self.folder()
+        words = call.split()[3:]
+        with Store(self.program, folder, 2) as store, Web(self.program, store, os.path.join(folder, "kim.state")) as web:
+            self.that("WEB: the words", form(" ".join(words)), form(" ".join([*store.words(), "--session", "all", "--state", "kim.state", "--name", "kim"])))
+            self.that("WEB: the line", form("web at " + web.link), form(link))
+            self.that("WEB: what became of a line", web.do("claim mon/9/blue kim"), json.loads(done))
+            self.that("WEB: what is seen", names(json.dumps(web.looks(lambda state: state["rows"] and state["own"] == [] and state["notices"])) + '"write": "told":'),
+                      names(seen))
+
     def book(self):
         line = self.pages["docs/BOOK.md"].take("totals reads")
         printed = [open(path).read() for path in glob.glob(os.path.join(TOP, "examples", "*.expected"))]
@@ -278,7 +297,7 @@ class Tries:
             self.that(name + ": each form is there", [form for form in forms if not any(line.startswith(form) for line in left)], [])
 
 
-GROUPS = ["readme", "audits", "language", "formats", "net", "serve", "connect", "book", "rest"]
+GROUPS = ["readme", "audits", "language", "formats", "net", "serve", "connect", "web", "book", "rest"]
 
 
 def main():

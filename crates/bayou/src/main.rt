@@ -9,7 +9,7 @@ mod progress;
 use bayou_connect::Input;
 use bayou_shell::{
     Errand, Files, refuse_words, run_connected, run_exported, run_imported, run_key, run_main,
-    run_net, run_renewed, run_served,
+    run_net, run_renewed, run_served, run_web,
 };
 use bayou_streams::{CountedChannel, Output};
 use progress::{Counted, Screen, tell_progress};
@@ -142,6 +142,11 @@ fn run<
             screen.lock(rt).end();
             let is_terminal = told.is_terminal();
             run_imported(rt, alloc, intake, is_terminal, &mut output, told)
+        }
+        Errand::Web(window) => {
+            // So is a page, as long as it is served.
+            screen.lock(rt).end();
+            run_web(rt, alloc, window, &mut output, told)
         }
         Errand::Connect(call) => {
             // So is a person.

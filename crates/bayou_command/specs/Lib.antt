@@ -7,4 +7,5 @@ pub mod Options
 pub mod Renew
 pub mod Rows
 pub mod Serve
+pub mod Web
 pub mod Words

@@ -1,4 +1,4 @@
--- Words of `serve`, of `connect`, of `renew`, of `export` and of `import`, and what they ask for.
+-- Words of `serve`, of `connect`, of `renew`, of `export`, of `import` and of `web`, and what they ask for.
 use Rattle.std.specs.Prelude.{◌≡◌, ℕ, false, true, List, [], ◌∷◌, None, codes, pos}
 use Rattle.std.specs.Str.Parse.{digits_value, without_leading_plus}
 use Rattle.clap.specs.ValueTests.{is_signed_in}
@@ -8,6 +8,8 @@ use Rattle.bayou_command.specs.Serve.{Service}
 use Rattle.bayou_command.specs.Connect.{Connection}
 use Rattle.bayou_command.specs.Export.{Export}
 use Rattle.bayou_command.specs.Import.{Import}
+use Rattle.bayou_command.specs.Web.{Web}
+use Rattle.bayou_command.specs.declared.web.TheConstants.{LISTEN}
 use Rattle.bayou_command.specs.Renew.{Renewal}
 use Rattle.bayou_command.specs.Words.{AskFor, Asked, faults_of, standard}
 
@@ -121,6 +123,27 @@ plain_import = record {
   wait_seconds = 0;
   timeout_seconds = 3;
   file = codes "f";
+}
+
+-- the program and a page, before these words
+abbrev pub web_words : List Text → List Text
+web_words words = codes "bayou" ∷ codes "web" ∷ words
+
+-- with the words that must be there, and these
+abbrev pub web_with : List Text → List Text
+web_with words = web_words (codes "--state" ∷ codes "t" ∷ codes "--server" ∷ codes "s" ∷ words)
+
+-- what those words ask for
+abbrev pub plain_web : Web
+plain_web = record {
+  servers = codes "s" ∷ [];
+  count = None;
+  asks = None;
+  key = None;
+  state = codes "t";
+  name = None;
+  listen = LISTEN.now;
+  timeout_seconds = 3;
 }
 
 -- the number that a text is in decimal digits, behind a sign or none

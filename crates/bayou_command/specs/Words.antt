@@ -12,11 +12,12 @@ use Rattle.bayou_command.specs.Import.{Import, import_app, import_of, import_see
 use Rattle.bayou_command.specs.Key.{key_app}
 use Rattle.bayou_command.specs.Options.{text_of}
 use Rattle.bayou_command.specs.Renew.{Renewal, renew_app, renewal_of, renewal_seen}
+use Rattle.bayou_command.specs.Web.{Web, web_app, web_of, web_seen}
 use Rattle.bayou_command.specs.Serve.{Service, serve_app, service_of, service_seen}
 use Rattle.bayou_command.specs.declared.Stop.{Stop}
 use Rattle.bayou_command.specs.declared.Stop.TheVariants as stops
 use Rattle.bayou_command.specs.declared.Task.{Task}
-use Rattle.bayou_command.specs.declared.Task.TheVariants.{Run, Audit, Net, Serve, Connect, Key, Renew, Export as Exports, Import as Imports}
+use Rattle.bayou_command.specs.declared.Task.TheVariants.{Run, Audit, Net, Serve, Connect, Key, Renew, Export as Exports, Import as Imports, Web as Pages}
 
 -- `run` takes a file or none, and `audit` takes one
 abbrev pub run_app : App
@@ -38,8 +39,8 @@ main_app = record bare_app { top = record bare_app.top { has_version = true; sub
 
 abbrev pub bayou_app : App
 bayou_app =
-    with_subcommand (with_subcommand (with_subcommand (with_subcommand (with_subcommand (with_subcommand (with_subcommand (with_subcommand (with_subcommand main_app run_app.top) net_app.top) serve_app.top) connect_app.top) key_app.top) renew_app.top)
-    export_app.top) import_app.top) audit_app.top
+    with_subcommand (with_subcommand (with_subcommand (with_subcommand (with_subcommand (with_subcommand (with_subcommand (with_subcommand (with_subcommand (with_subcommand main_app run_app.top) net_app.top) serve_app.top) connect_app.top) key_app.top) renew_app.top)
+    export_app.top) import_app.top) web_app.top) audit_app.top
 
 -- why the words, the program's own name before them, may name no task; there is nothing of that kind where they name one
 abbrev pub faults_of : List Text → Kinds
@@ -56,6 +57,7 @@ pub data Asked : Type 0 where
   a_renewal : Renewal → Asked
   an_export : Export → Asked
   an_import : Import → Asked
+  a_web : Web → Asked
 
 -- the folder that is named, as it is wherever a command that asks for one was entered
 abbrev pub folder_of : List Row → Text
@@ -74,6 +76,7 @@ abbrev pub asked_of_person : Text → List Row → Asked
 asked_of_person name rows =
     if bytes_eq name (codes "connect") then a_connect (connection_of rows)
     else if bytes_eq name (codes "key") then a_key (text_of (codes "name") rows) (text_of file_name rows)
+    else if bytes_eq name (codes "web") then a_web (web_of rows)
     else asked_beside name rows
 
 -- and of all commands
@@ -84,7 +87,7 @@ asked_named name rows =
     else if bytes_eq name (codes "serve") then a_serve (service_of rows)
     else asked_of_person name rows
 
--- of the program's nine commands, the one that was entered
+-- of the program's ten commands, the one that was entered
 abbrev pub asked_by : Option (Text × List Row) → Asked
 asked_by None = a_run standard
 asked_by (Some (name, rows)) = asked_named name rows
@@ -105,6 +108,7 @@ task_seen (Key name made) = a_key name.now made.now
 task_seen (Renew renewing) = a_renewal (renewal_seen renewing)
 task_seen (Exports exporting) = an_export (export_seen exporting)
 task_seen (Imports importing) = an_import (import_seen importing)
+task_seen (Pages showing) = a_web (web_seen showing)
 
 -- it is no mistake, but asks for a text: a help, or the version
 abbrev pub IsRequest : ErrorKind → Type 0

@@ -120,8 +120,8 @@ output, memory or the state (its file can't be had, is in use, or has something 
 Pages: docs/CONNECT.md (a calendar's day, and what a session keeps), docs/SERVE.md (servers that live), docs/GUARANTEES.md (what a session may
 ask for), docs/FINAL.md (what is final), docs/FORMATS.md (lines in and out), docs/TROUBLE.md (what to do about each fault)."#;
 
-// The command with the options that say which store it is, and what the session asks for.
-fn with_store<'a>(alloc: Global, command: Command<'a>) -> Result<Command<'a>, AllocError>
+/// The command with the options that say which store it is, and what the session asks for.
+pub(crate) fn with_store<'a>(alloc: Global, command: Command<'a>) -> Result<Command<'a>, AllocError>
     ensures app { IfOk result (λ made. app_of made ≡ with_rules (app_of command.entry) store_rules) }
     ensures local { IfOk result (λ made. (fields_of made).has_globals ≡ (fields_of command.entry).has_globals) }
 {

@@ -8,8 +8,8 @@
 ghost use Rattle.std.specs.Prelude.{◌≡◌, ◌∷◌, ◌++◌, [], ℕ, IfOk, List, Some, codes, false, map, true};
 ghost use Rattle.clap.specs.declared.builder.command.Command.TheViews.{out-Command as fields_of};
 ghost use Rattle.clap.specs.Words.{app_of, found_of, kind_of, rows_of, rule_of, subcommand_rows_of};
-ghost use Rattle.bayou_command.specs.Words.{AskFor, Names, a_connect, a_key, a_net, a_renewal, a_run, a_serve, an_audit, an_export, an_import, asked_beside, asked_by, asked_named, asked_of_person, audit_app, bayou_app, faults_of, file, folder_of, folder_rule, input_of, input_seen, main_app, net_app, run_app, standard, task_seen};
-ghost use Rattle.bayou_command.specs.Rows.{TakesNumbers, bare_export, connect_with, connect_words, export_words, import_with, import_words, key_words, plain_connection, plain_import, plain_renewal, plain_service, renew_with, renew_words, serve_with, serve_words};
+ghost use Rattle.bayou_command.specs.Words.{AskFor, Names, a_connect, a_key, a_net, a_renewal, a_run, a_serve, a_web, an_audit, an_export, an_import, asked_beside, asked_by, asked_named, asked_of_person, audit_app, bayou_app, faults_of, file, folder_of, folder_rule, input_of, input_seen, main_app, net_app, run_app, standard, task_seen};
+ghost use Rattle.bayou_command.specs.Rows.{TakesNumbers, bare_export, connect_with, connect_words, export_words, import_with, import_words, key_words, plain_connection, plain_import, plain_renewal, plain_service, renew_with, renew_words, serve_with, serve_words, plain_web, web_with, web_words};
 ghost use Rattle.bayou_command.specs.Inner.Stops.{StopsAt};
 
 mod connect;
@@ -24,6 +24,8 @@ mod renew;
 mod renewing;
 mod serve;
 mod serving;
+mod showing;
+pub mod web;
 
 use clap::builder::ValueParser;
 use clap::error::ErrorKind;
@@ -40,8 +42,10 @@ use renew::{renew_command, renewing_in};
 pub use renewing::Renewing;
 use serve::{serve_command, serving_in};
 pub use serving::Serving;
+pub use showing::Showing;
 use std::alloc::{AllocError, Global};
 use std::convert::AsStr;
+use web::{showing_in, web_command};
 
 const ABOUT: &str =
     "A replicated store in the manner of Bayou, driven by scripts, and an auditor of what such stores served.";
@@ -78,7 +82,8 @@ the verdict is clean.
 
 `bayou run --help` has each line of a script, `bayou net --help` how a script is run over sockets, with journals in files,
 `bayou audit --help` each line of an audit file, `bayou serve --help` how one server is kept at a socket for clients of any kind,
-`bayou connect --help` how a person writes and reads at such servers, `bayou key --help` how a store is kept from strangers,
+`bayou connect --help` how a person writes and reads at such servers, `bayou web --help` how on a page in a browser,
+`bayou key --help` how a store is kept from strangers,
 `bayou renew --help` how a store goes on once its log is full, and `bayou export --help` and `bayou import --help` how what a store has
 is taken out of it and put into one.
 Exit status: 0 nothing is wrong; 1 a verdict is broken; 2 the input or the command line is refused, or a verdict is; 3 memory, a
@@ -279,6 +284,8 @@ pub enum Task<'a> {
     Export(Exporting<'a>),
     /// To put lines into a store.
     Import(Importing<'a>),
+    /// To show a store on a page.
+    Web(Showing<'a>),
 }
 
 /// Why the words name no task.
@@ -384,6 +391,7 @@ fn bayou_command<'a>(alloc: Global) -> Result<Command<'a>, AllocError>
         .subcommand(renew_command(alloc)?)?
         .subcommand(export_command(alloc)?)?
         .subcommand(import_command(alloc)?)?
+        .subcommand(web_command(alloc)?)?
         .subcommand(audit_command(alloc)?)
 }
 
@@ -437,6 +445,7 @@ fn task_of_person<'a>(
             name: text_in(found, "name"),
             file: text_in(found, "FILE"),
         },
+        "web" => Task::Web(showing_in(alloc, found)?),
         _ => task_beside(alloc, name, found)?,
     })
 }
@@ -699,4 +708,23 @@ pub fn imports_are_named()
     ensures state_twice { faults_of (import_with (codes "--state" ∷ codes "t" ∷ codes "--state" ∷ codes "u" ∷ [])) ≡ ErrorKind.ArgumentConflict ∷ [] }
     ensures two_files { faults_of (import_with (codes "g" ∷ [])) ≡ ErrorKind.UnknownArgument ∷ [] }
     ensures no_option { faults_of (import_with (codes "--walk" ∷ [])) ≡ ErrorKind.UnknownArgument ∷ [] }
+{}
+
+/// A law: `bayou web` asks for the page of a session that is kept in the file that is named, at the servers that are, in the order of the words, and with each
+/// other option as it is given. Without a server or a state, with a number out of its range, with one option twice, with a state or a key of no name, or with a
+/// word that is no option it is refused. What stands behind `--server=` and `--name=` is taken as it stands.
+pub fn pages_are_named()
+    ensures plain { AskFor (web_with []) (a_web plain_web) }
+    ensures whole { AskFor (web_with (codes "--timeout" ∷ codes "9" ∷ codes "--listen" ∷ codes "a" ∷ codes "--name" ∷ codes "n" ∷ codes "--key" ∷ codes "k" ∷ codes "--session" ∷ codes "all" ∷ codes "--servers" ∷ codes "3" ∷ []))
+        (a_web (record plain_web { count = Some 3; asks = Some (codes "all"); key = Some (codes "k"); name = Some (codes "n"); listen = codes "a"; timeout_seconds = 9 })) }
+    ensures taken { (first second : List ℕ) → AskFor (web_words (codes "--state" ∷ codes "t" ∷ (codes "--server=" ++ first) ∷ (codes "--server=" ++ second) ∷ [])) (a_web (record plain_web { servers = first ∷ second ∷ [] })) }
+    ensures named { (name : List ℕ) → AskFor (web_with ((codes "--name=" ++ name) ∷ [])) (a_web (record plain_web { name = Some name })) }
+    ensures bare { faults_of (web_words []) ≡ ErrorKind.MissingRequiredArgument ∷ [] }
+    ensures no_state { faults_of (web_words (codes "--server" ∷ codes "s" ∷ [])) ≡ ErrorKind.MissingRequiredArgument ∷ [] }
+    ensures no_server { faults_of (web_words (codes "--state" ∷ codes "t" ∷ [])) ≡ ErrorKind.MissingRequiredArgument ∷ [] }
+    ensures servers_above { faults_of (web_with (codes "--servers" ∷ codes "17" ∷ [])) ≡ ErrorKind.ValueValidation ∷ [] }
+    ensures no_time { faults_of (web_with (codes "--timeout" ∷ codes "0" ∷ [])) ≡ ErrorKind.ValueValidation ∷ [] }
+    ensures no_key { faults_of (web_with (codes "--key" ∷ [] ∷ [])) ≡ ErrorKind.InvalidValue ∷ [] }
+    ensures state_twice { faults_of (web_with (codes "--state" ∷ codes "u" ∷ [])) ≡ ErrorKind.ArgumentConflict ∷ [] }
+    ensures no_option { faults_of (web_with (codes "--walk" ∷ [])) ≡ ErrorKind.UnknownArgument ∷ [] }
 {}

@@ -3,6 +3,7 @@ pub mod Exports
 pub mod Imports
 pub mod Inner
 pub mod Net
+pub mod Pages
 pub mod Plans
 pub mod Program
 pub mod Renewals

@@ -5,6 +5,7 @@ use crate::imported::Intake;
 use crate::keyed::NewKey;
 use crate::renewed::Renewal;
 use crate::served::Service;
+use crate::shown::Window;
 use bayou_script::NetworkScript;
 
 /// What is still to be done once the words were read, by who has threads and sockets.
@@ -29,4 +30,6 @@ pub enum Errand {
     Export(Extract),
     /// To put lines into a store.
     Import(Intake),
+    /// To show a store on a page.
+    Web(Window),
 }

@@ -4,7 +4,7 @@
 //! the writer holds before and after: `RunsAs` of a run, `AuditsAs` of an audit. The whole input is read, and checked by
 //! `bayou_script` as it comes, before anything runs. Where it is refused, nothing is printed, and the least line with a fault is
 //! told; where a fault comes later, a front of what is to be printed is printed. What a run prints are the lines of its answers
-//! (`bayou_machine`). A run over sockets, a server that is to live, a person's session, a key, a renewal, an export and an import are left to be
+//! (`bayou_machine`). A run over sockets, a server that is to live, a person's session or page, a key, a renewal, an export and an import are left to be
 //! done ([`Errand`]), as the words and the script say. Which lines a run over sockets prints then, no clause says: they are put behind what the writer
 //! holds, and nothing else is done there.
 //!
@@ -31,6 +31,7 @@ mod reading;
 pub mod renewed;
 pub mod run;
 pub mod served;
+pub mod shown;
 mod telling;
 
 pub use audit::run_audit;
@@ -45,3 +46,4 @@ pub use program::{refuse_words, run_main};
 pub use renewed::{Renewal, run_renewed};
 pub use run::run_script;
 pub use served::{Service, run_served};
+pub use shown::{Window, run_web};

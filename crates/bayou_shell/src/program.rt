@@ -23,6 +23,7 @@ use crate::net::read_net;
 use crate::renewed::Renewal;
 use crate::run::run_script;
 use crate::served::Service;
+use crate::shown::Window;
 use crate::telling::tell;
 use bayou_command::{Source, Stop, Task, read_words};
 use bayou_print::{Ended, RunFault, write_text};
@@ -71,7 +72,7 @@ fn source_of<'a>(task: &Task<'a>) -> Source<'a>
         Task::Run(source) | Task::Audit(source) => *source,
         Task::Net { script, .. } => *script,
         Task::Serve(_) | Task::Connect(_) | Task::Key { .. } => Source::Standard,
-        Task::Renew(_) | Task::Export(_) | Task::Import(_) => Source::Standard,
+        Task::Renew(_) | Task::Export(_) | Task::Import(_) | Task::Web(_) => Source::Standard,
     }
 }
 
@@ -108,6 +109,7 @@ fn work<R: Read, W: Write>(
         Task::Renew(renewing) => Ok(Errand::Renew(Renewal::of(alloc, &renewing)?)),
         Task::Export(exporting) => Ok(Errand::Export(Extract::of(alloc, &exporting)?)),
         Task::Import(importing) => Ok(Errand::Import(Intake::of(alloc, &importing)?)),
+        Task::Web(showing) => Ok(Errand::Web(Window::of(alloc, &showing)?)),
     }
 }
 
