@@ -4,12 +4,13 @@ use Rattle.std.specs.Str.Parse.{digits_value, without_leading_plus}
 use Rattle.clap.specs.ValueTests.{is_signed_in}
 use Rattle.clap.specs.Words.{Text, without_minus}
 use Rattle.clap.specs.declared.error.kind.ErrorKind.TheVariants.{ValueValidation}
+use Rattle.bayou_command.specs.Check.{Check}
 use Rattle.bayou_command.specs.Serve.{Service}
 use Rattle.bayou_command.specs.Connect.{Connection}
 use Rattle.bayou_command.specs.Export.{Export}
 use Rattle.bayou_command.specs.Import.{Import}
 use Rattle.bayou_command.specs.Renew.{Renewal}
-use Rattle.bayou_command.specs.Words.{AskFor, Asked, faults_of, standard}
+use Rattle.bayou_command.specs.Words.{AskFor, Asked, faults_of, file, standard}
 
 -- the program and its command, before these words
 abbrev pub serve_words : List Text → List Text
@@ -122,6 +123,14 @@ plain_import = record {
   timeout_seconds = 3;
   file = codes "f";
 }
+
+-- the program and how a text is checked, before these words
+abbrev pub check_words : List Text → List Text
+check_words words = codes "bayou" ∷ codes "check" ∷ words
+
+-- what a file alone asks for
+abbrev pub plain_check : Check
+plain_check = record { file = file (codes "f"); is_json = false }
 
 -- the number that a text is in decimal digits, behind a sign or none
 abbrev pub number_written : Text → ℕ

@@ -1,4 +1,5 @@
 //! What the words leave to be done.
+use crate::checked::Checkup;
 use crate::connected::Call;
 use crate::exported::Extract;
 use crate::imported::Intake;
@@ -29,4 +30,6 @@ pub enum Errand {
     Export(Extract),
     /// To put lines into a store.
     Import(Intake),
+    /// To tell every fault of a text.
+    Check(Checkup),
 }
