@@ -3,8 +3,9 @@ _bayou() {
     local word=${COMP_WORDS[COMP_CWORD]} before=${COMP_WORDS[COMP_CWORD - 1]} command='' words
     [ "$COMP_CWORD" -lt 2 ] || command=${COMP_WORDS[1]}
     case $command in
-        '') words='run net audit serve connect key renew export import web help -h --help -V --version' ;;
+        '') words='run net audit check serve connect key renew export import web help -h --help -V --version' ;;
         run | audit) words='-h --help' ;;
+        check) words='--json -h --help' ;;
         net) words='--dir -h --help' ;;
         serve)
             words='--id --servers --dir --listen --peer --key --every --limit --connections --idle'
@@ -16,7 +17,7 @@ _bayou() {
         export) words='--server --servers --key --timeout --dir --id -h --help' ;;
         import) words='--server --servers --key --state --wait --timeout -h --help' ;;
         web) words='--server --servers --session --key --state --name --listen --timeout -h --help' ;;
-        help) words='run net audit serve connect key renew export import web help' ;;
+        help) words='run net audit check serve connect key renew export import web help' ;;
         *) words='' ;;
     esac
     COMPREPLY=()

@@ -228,7 +228,8 @@ class Tries:
                     with open(at, "wb") as file:
                         file.write(content)
             done = subprocess.run([self.program, "net", "--dir", folder, script], stdout=subprocess.PIPE, stderr=subprocess.PIPE, timeout=SECONDS)
-            self.that("a second server that doesn't start beside %s" % name, (done.returncode, done.stdout, done.stderr), (3, b"", b"bayou: device\n"))
+            self.that("a second server that doesn't start beside %s" % name, (done.returncode, done.stdout, done.stderr),
+                      (3, b"", b"bayou: device\n  %s: it is no journal\n" % other.encode()))
             left = None
             if os.path.exists(path):
                 with open(path, "rb") as file:

@@ -129,6 +129,6 @@ def flipped(tries, each, counts=(1, 60, 200)):
             file.write('["servers",1]\n["session",0,["ryw"]]\n["read",0,0,"k0"]\n')
         # What a script over sockets ends with is one word; what it dropped of an entry that was cut off it doesn't tell.
         net = ["net", "--dir", ".", "script"]
-        Bits(tries, path, net, b"", r"read k0 .* at ([0-9]+)", DROPPED + "|", "(%s)?bayou: device\n" % DAMAGED).go(each, "of a journal of %d Writes, in a script over sockets," % count)
+        Bits(tries, path, net, b"", r"read k0 .* at ([0-9]+)", DROPPED + "|", "(%s)?bayou: device\n(  [^\n]+\n)?" % DAMAGED).go(each, "of a journal of %d Writes, in a script over sockets," % count)
         connect = ["connect", "--server", "0=127.0.0.1:%d" % free_port(), "--state", "st"]
         Bits(tries, os.path.join(folder, "st"), connect, b"session\n", r"wrote ([0-9]+)", DROPPED + "|", DAMAGED + "|" + OTHERS).go(each, "of a state of %d Writes" % count)

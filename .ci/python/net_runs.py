@@ -1,6 +1,7 @@
 """Runs of `bayou net`, each a process over a folder."""
 import json
 import os
+import re
 import select
 import signal
 import subprocess
@@ -8,6 +9,9 @@ import subprocess
 # How long a run may take before it counts as hanging, and how long one that waits for a test may take to print a line.
 SECONDS = 120
 LINE_SECONDS = 30
+
+# The line that names the cause of such a fault, which `.ci/check` looks at.
+CAUSE = re.compile(r"^(bayou: (?:device|input)\n)  [^\n]+\n\Z", re.M)
 
 
 def line(*members):
@@ -25,14 +29,14 @@ def script(*lines):
 
 
 def call(program, words, text="", to=subprocess.PIPE, before=None, variables=None, seconds=SECONDS):
-    """The status, the output and the errors of the program with these words, over this text as its input."""
+    """The status, the output and the errors, but for the line of a cause, of the program with these words, over this text as its input."""
     try:
         ended = subprocess.run([program, *words], input=text.encode(), stdout=to, stderr=subprocess.PIPE, timeout=seconds, preexec_fn=before,
                                env=dict(os.environ, **(variables or {})))
     except subprocess.TimeoutExpired:
         return "hangs", "", ""
     output = "" if ended.stdout is None else ended.stdout.decode("utf-8", "replace")
-    return ended.returncode, output, ended.stderr.decode("utf-8", "replace")
+    return ended.returncode, output, CAUSE.sub(r"\1", ended.stderr.decode("utf-8", "replace"))
 
 
 def run(program, folder, text, *words):

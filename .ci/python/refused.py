@@ -12,14 +12,20 @@ import subprocess
 import sys
 import tempfile
 
+from net_runs import CAUSE
 from tables import CALLS, PATIENCE, TOP, Lines, Program, read
 
 # Where each allocation is refused; files of rows have each of their lines tried.
-MEMORY = ("run/again-short", "run/each-command", "run/totals", "run/scripts", "run/pulls", "run/faults", "run/prefixes", "audit/files", "lines/run.rows", "person/refused.rows")
+MEMORY = ("run/again-short", "run/each-command", "run/totals", "run/scripts", "run/pulls", "run/faults", "run/prefixes", "audit/files", "check/texts", "lines/run.rows", "person/refused.rows")
 # Where each read and write fails.
-CALLED = ("run", "audit", "net")
+CALLED = ("run", "audit", "net", "check/texts")
 # The most Items that a pull of these scripts has, the most device calls of an opening, and a server of theirs that is down.
 ITEMS, OPENING_CALLS, SPARE = 3, 4, "2"
+
+
+def without_cause(told):
+    """What is told, but for the line that names the cause of a fault, which `.ci/check` looks at."""
+    return CAUSE.sub(r"\1", told.decode())
 
 
 class Refusing:
@@ -39,7 +45,7 @@ class Refusing:
             env = {"LD_PRELOAD": self.refuse, "ASKED": asked.name, **{name: str(value) for name, value in meddled.items()}} if meddled else {}
             words = [word.replace("{dir}", folder).replace("{}", case.name) for word in words]
             done = subprocess.run([self.program.path] + words, input=stdin, capture_output=True, env=env, timeout=PATIENCE)
-            return (done.stdout.decode(), done.stderr.decode(), done.returncode), int(asked.read() or 0)
+            return (done.stdout.decode(), without_cause(done.stderr), done.returncode), int(asked.read() or 0)
 
     def run(self, lines):
         """What a script comes to with memory enough."""
@@ -139,7 +145,7 @@ class Script:
         self.text = read(path)
         args = read(self.base + ".args", None)
         self.words = args.decode().split("\n")[:-1] if args is not None else CALLS[os.path.relpath(path, TOP).split(os.sep)[0]]
-        self.whole = read(self.base + ".out").decode(), read(self.base + ".err").decode(), int(read(self.base + ".status", b"0"))
+        self.whole = read(self.base + ".out").decode(), without_cause(read(self.base + ".err")), int(read(self.base + ".status", b"0"))
         self.others = [read(self.base + ".or%d" % at).decode() for at in range(1, 10) if os.path.exists(self.base + ".or%d" % at)]
 
     def call(self, **meddled):

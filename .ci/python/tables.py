@@ -16,7 +16,8 @@ import tempfile
 TOP = os.path.normpath(os.path.join(os.path.dirname(os.path.abspath(__file__)), "../../tests"))
 PROBE = os.path.join(TOP, "../crates/bayou_probe/out/bayou_probe")
 # What the program is called with in each folder, where a case says no words of its own; {} is a copy of the case, and {dir} a new folder.
-CALLS = {"run": ["run"], "audit": ["audit", "{}"], "net": ["net", "--dir", "{dir}", "{}"]}
+CALLS = {"run": ["run"], "audit": ["audit", "{}"], "net": ["net", "--dir", "{dir}", "{}"],
+         "check": ["check", "-"]}
 CASES = (".jsonl", ".pieces", ".stdin", ".txt")
 # The most that one call may take, in seconds.
 PATIENCE = 120
@@ -128,7 +129,7 @@ class Case:
 
     def texts(self, came):
         told = []
-        for kind, found in ((".out", came.out), (".err", came.err)):
+        for kind, found in ((".out", came.out), (".err", came.err.replace(came.folder.encode(), b"{dir}"))):
             part = read(self.base + kind + ".has", None)
             if part is None:
                 told += self.differs(self.base + kind, found, read(self.base + kind))
@@ -157,7 +158,7 @@ class Case:
 class Rows:
     """A table of lines. Its head says, in lines that begin with `# `, how the rows are asked; other such lines are for its reader."""
 
-    WORDS = ("call", "before", "newline", "bytes", "probe", "front", "back", "same", "shown")
+    WORDS = ("call", "before", "newline", "bytes", "probe", "front", "back", "same", "shown", "check")
 
     def __init__(self, path):
         self.path, self.head, self.rows = path, {}, []
@@ -227,6 +228,38 @@ class Lines(Rows):
         return self.judged(answers, lambda row, came: came == (self.must(row) or None), self.accept)
 
 
+class Checked(Rows):
+    """Rows of lines, each in its place of a script or of an audit file: what `bayou check` tells of it."""
+
+    def __init__(self, program, path, accept):
+        super().__init__(path)
+        self.program, self.accept = program, accept
+        self.before = "".join(line + "\n" for line in self.head.get("before", []))
+
+    def line_of(self, row):
+        text = row.partition(" => ")[0].replace("\\r", "\r").encode()
+        return re.sub(rb"\\x([0-9a-f]{2})", lambda mark: bytes([int(mark.group(1), 16)]), text)
+
+    def answer(self, row):
+        """What is told of the row's line; None where nothing is."""
+        number = self.before.count("\n") + 1
+        came = self.program.call(["check", "--json", "-"], b"", self.before.encode() + self.line_of(row) + b"\n")
+        told = [json.loads(line) for line in came.out.decode().split("\n")[:-1]]
+        own = [one for one in told[:-1] if one["line"] == number]
+        if not own:
+            return None if (came.status, told[-1]["faults"]) == (0, 0) else "status %d" % came.status
+        parts = [own[0]["fault"], "at " + ".".join(str(step) for step in own[0]["path"]) if own[0]["path"] else "at the line"]
+        parts += ["found " + own[0]["found"], "expected " + own[0]["expected"]]
+        return "; ".join(parts + (["fix " + own[0]["fix"]] if own[0]["fix"] else []))
+
+    def tried(self):
+        answers = [self.answer(row) for _, row in self.rows]
+        return self.judged(answers, lambda row, came: came == self.must(row), self.accept)
+
+    def must(self, row):
+        return row.partition(" => ")[2] or None
+
+
 class Marks:
     """What stands for bytes: marks by name, and `HH*N` for a byte that comes N times."""
 
@@ -284,6 +317,8 @@ def tables_below(folder, program, probe, accept):
                 yield Case(program, base, kind, accept)
             elif kind == ".rows" and b"\n# probe " in b"\n" + read(base + kind):
                 yield Probed(probe, base + kind, accept)
+            elif kind == ".rows" and b"\n# check" in b"\n" + read(base + kind):
+                yield Checked(program, base + kind, accept)
             elif kind == ".rows":
                 yield Lines(program, base + kind, accept)
 

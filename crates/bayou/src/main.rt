@@ -4,14 +4,16 @@
 ghost use Rattle.std.specs.Prelude.{◌≡◌, IfSome};
 ghost use Rattle.std.specs.Thread.{IsSend};
 
+mod more;
 mod progress;
 
 use bayou_connect::Input;
 use bayou_shell::{
-    Errand, Files, refuse_words, run_connected, run_exported, run_imported, run_key, run_main,
-    run_net, run_renewed, run_served, run_web,
+    Errand, Files, refuse_words, run_checked, run_connected, run_exported, run_imported, run_key,
+    run_main, run_net, run_renewed, run_served, run_web, tell_device,
 };
 use bayou_streams::{CountedChannel, Output};
+use more::{More, tell_more};
 use progress::{Counted, Screen, tell_progress};
 use std::alloc::Global;
 use std::fs::{File, OpenOptions};
@@ -36,6 +38,8 @@ struct NamedFiles<'a, T> {
     rt: &'a T,
     /// The file that was read.
     file: Option<CountedChannel<File, ()>>,
+    /// What else is known of it.
+    more: More,
 }
 
 impl<T: fs::Files<File = File>> Files for NamedFiles<'_, T> {
@@ -45,8 +49,15 @@ impl<T: fs::Files<File = File>> Files for NamedFiles<'_, T> {
 
     ghost refuses = { λ name. Unit {0} };
 
-    fn open(&mut self, _alloc: Global, name: &str) -> io::Result<File> {
-        File::open(self.rt, name)
+    fn open(&mut self, alloc: Global, name: &str) -> io::Result<File> {
+        self.more.note(alloc, name);
+        let opened = File::open(self.rt, name);
+        match &opened {
+            Ok(_) if is_folder(self.rt, name) => self.more.refuse(alloc, &"it is a folder"),
+            Ok(_) => {}
+            Err(error) => self.more.refuse(alloc, error),
+        }
+        opened
     }
 
     ghost kept = { λ files has_failed turns_left. IfSome files.file (λ file. (has_failed ≡ file.read_failed) × (turns_left ≡ file.turns_left)) };
@@ -55,6 +66,14 @@ impl<T: fs::Files<File = File>> Files for NamedFiles<'_, T> {
         ensures { IfSome self.new.file (λ kept. (file.read_failed ≡ kept.read_failed) × (file.turns_left ≡ kept.turns_left)) }
     {
         self.file = Some(file);
+    }
+}
+
+// Whether it is a folder, which is opened and can't be read.
+fn is_folder<T: fs::Files<File = File>>(rt: &T, name: &str) -> bool {
+    match fs::metadata(rt, name) {
+        Ok(found) => found.is_dir(),
+        Err(_) => false,
     }
 }
 
@@ -105,7 +124,11 @@ fn run<
         errors,
         told,
     } = streams;
-    let mut files = NamedFiles { rt, file: None };
+    let mut files = NamedFiles {
+        rt,
+        file: None,
+        more: More::new(),
+    };
     let mut output = Output::new(Counted::new(output, rt, screen));
     let mut errors = Output::new(Counted::new(errors, rt, screen));
     let mut input = CountedChannel::new(input, ());
@@ -118,16 +141,32 @@ fn run<
         &mut errors,
     );
     match errand {
-        Errand::Done(status) => status,
-        Errand::Net { folder, script } => run_net(
-            rt,
-            alloc,
-            folder.as_str(),
-            script,
-            &mut output,
-            &mut errors,
-            &mut Output::new(Counted::new(told, rt, screen)),
-        ),
+        Errand::Done(status) => {
+            let is_refused = screen.lock(rt).is_refused() && told.is_terminal();
+            tell_more(&files.more, words, status, is_refused, &mut errors);
+            status
+        }
+        Errand::Net { folder, script } => {
+            let mut told = Output::new(Counted::new(told, rt, screen));
+            let servers = script.servers;
+            let folder = folder.as_str();
+            let status = run_net(
+                rt,
+                alloc,
+                folder,
+                script,
+                &mut output,
+                &mut errors,
+                &mut told,
+            );
+            if screen.lock(rt).is_unbegun() {
+                tell_device(rt, alloc, folder, servers, &mut errors);
+            }
+            status
+        }
+        Errand::Check(checkup) => {
+            run_checked(rt, alloc, &checkup, &mut input, &mut output, &mut errors)
+        }
         Errand::Serve(service) => {
             // A server that lives is at work for as long as it does, which is no news.
             screen.lock(rt).end();

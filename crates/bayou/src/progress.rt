@@ -4,7 +4,7 @@ ghost use Rattle.std.specs.Duration.{as_nanos};
 ghost use Rattle.bayou_streams.specs.Lines.{counted, line_feeds};
 
 use std::alloc::{AllocError, Global};
-use std::io::Write;
+use std::io::{ErrorKind, Write};
 use std::sync::{Mutex, Wait};
 use std::time::{Clock, Duration};
 use std::{io, thread};
@@ -17,6 +17,9 @@ const LOOK_MILLISECONDS: u64 = 20;
 
 /// What clears the line of a terminal.
 const CLEAR: &str = "\r\x1b[K";
+
+/// What the fault of a line of a text begins with.
+const LINE_FAULT: &[u8] = b"bayou: line ";
 
 /// Whether progress is due, where a line was last printed or told of at `last`.
 fn is_due(now: Duration, last: Duration) -> bool
@@ -48,6 +51,12 @@ pub struct Screen<E> {
     is_shown: bool,
     /// Whether the work ended.
     is_over: bool,
+    /// Whether who reads the output has gone.
+    is_cut: bool,
+    /// Whether the fault of a line of a text was told.
+    is_refused: bool,
+    /// Whether it was told that servers didn't begin.
+    is_unbegun: bool,
 }
 
 impl<E: Write> Screen<E> {
@@ -65,6 +74,9 @@ impl<E: Write> Screen<E> {
             seen: 0,
             is_shown: false,
             is_over: false,
+            is_cut: false,
+            is_refused: false,
+            is_unbegun: false,
         }
     }
 
@@ -85,6 +97,31 @@ impl<E: Write> Screen<E> {
     {
         self.clear();
         self.is_over = true;
+    }
+
+    /// Whether the fault of a line of a text was told.
+    pub fn is_refused(&self) -> bool
+        ensures { result ≡ self.now.is_refused }
+    {
+        self.is_refused
+    }
+
+    /// Whether it was told that servers didn't begin.
+    pub fn is_unbegun(&self) -> bool
+        ensures { result ≡ self.now.is_unbegun }
+    {
+        self.is_unbegun
+    }
+
+    // Notes whether this tells the fault of a line of a text, or that servers didn't begin.
+    fn note(&mut self, text: &[u8]) {
+        self.is_refused = self.is_refused || text.starts_with(LINE_FAULT);
+        self.is_unbegun = self.is_unbegun || matches!(text, b"bayou: device\n");
+    }
+
+    // Whether this says that the output is at fault, where only its reader has gone: as other tools do, that is told by the status alone.
+    fn is_needless(&self, text: &[u8]) -> bool {
+        self.is_cut && matches!(text, b"bayou: output\n")
     }
 
     // Counts the line feeds.
@@ -168,9 +205,20 @@ impl<W: Write, E: Write, T: Wait> Write for Counted<'_, W, E, T> {
     fn write(&mut self, buf: &[u8]) -> io::Result<usize> {
         let mut screen = self.screen.lock(self.rt);
         screen.clear();
-        let count = self.writer.write(buf)?;
-        screen.count(&buf[..count]);
-        Ok(count)
+        if screen.is_needless(buf) {
+            return Ok(buf.len());
+        }
+        match self.writer.write(buf) {
+            Ok(count) => {
+                screen.note(buf);
+                screen.count(&buf[..count]);
+                Ok(count)
+            }
+            Err(error) => {
+                screen.is_cut = screen.is_cut || error.kind() == ErrorKind::BrokenPipe;
+                Err(error)
+            }
+        }
     }
 
     fn flush(&mut self) -> io::Result<()> {

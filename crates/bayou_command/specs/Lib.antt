@@ -1,3 +1,4 @@
+pub mod Check
 pub mod Connect
 pub mod Export
 pub mod Import

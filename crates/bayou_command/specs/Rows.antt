@@ -4,6 +4,7 @@ use Rattle.std.specs.Str.Parse.{digits_value, without_leading_plus}
 use Rattle.clap.specs.ValueTests.{is_signed_in}
 use Rattle.clap.specs.Words.{Text, without_minus}
 use Rattle.clap.specs.declared.error.kind.ErrorKind.TheVariants.{ValueValidation}
+use Rattle.bayou_command.specs.Check.{Check}
 use Rattle.bayou_command.specs.Serve.{Service}
 use Rattle.bayou_command.specs.Connect.{Connection}
 use Rattle.bayou_command.specs.Export.{Export}
@@ -11,7 +12,7 @@ use Rattle.bayou_command.specs.Import.{Import}
 use Rattle.bayou_command.specs.Web.{Web}
 use Rattle.bayou_command.specs.declared.web.TheConstants.{LISTEN}
 use Rattle.bayou_command.specs.Renew.{Renewal}
-use Rattle.bayou_command.specs.Words.{AskFor, Asked, faults_of, standard}
+use Rattle.bayou_command.specs.Words.{AskFor, Asked, faults_of, file, standard}
 
 -- the program and its command, before these words
 abbrev pub serve_words : List Text → List Text
@@ -145,6 +146,14 @@ plain_web = record {
   listen = LISTEN.now;
   timeout_seconds = 3;
 }
+
+-- the program and how a text is checked, before these words
+abbrev pub check_words : List Text → List Text
+check_words words = codes "bayou" ∷ codes "check" ∷ words
+
+-- what a file alone asks for
+abbrev pub plain_check : Check
+plain_check = record { file = file (codes "f"); is_json = false }
 
 -- the number that a text is in decimal digits, behind a sign or none
 abbrev pub number_written : Text → ℕ

@@ -6,6 +6,7 @@ use Rattle.clap.specs.Words.{App, Row, Text, fault_of, new_app, subcommand_of, w
 use Rattle.clap.specs.declared.error.kind.ErrorKind.{ErrorKind}
 use Rattle.clap.specs.declared.error.kind.ErrorKind.TheVariants.{DisplayHelp, DisplayVersion}
 pub use Rattle.bayou_command.specs.Options.{Input, file, file_name, file_rule, folder_name, folder_rule, input_named, input_of, input_seen, standard}
+use Rattle.bayou_command.specs.Check.{Check, check_app, check_of, check_seen}
 use Rattle.bayou_command.specs.Connect.{Connection, connect_app, connection_of, connection_seen}
 use Rattle.bayou_command.specs.Export.{Export, export_app, export_of, export_seen}
 use Rattle.bayou_command.specs.Import.{Import, import_app, import_of, import_seen}
@@ -17,7 +18,7 @@ use Rattle.bayou_command.specs.Serve.{Service, serve_app, service_of, service_se
 use Rattle.bayou_command.specs.declared.Stop.{Stop}
 use Rattle.bayou_command.specs.declared.Stop.TheVariants as stops
 use Rattle.bayou_command.specs.declared.Task.{Task}
-use Rattle.bayou_command.specs.declared.Task.TheVariants.{Run, Audit, Net, Serve, Connect, Key, Renew, Export as Exports, Import as Imports, Web as Pages}
+use Rattle.bayou_command.specs.declared.Task.TheVariants.{Run, Audit, Net, Serve, Connect, Key, Renew, Export as Exports, Import as Imports, Check as Checks, Web as Pages}
 
 -- `run` takes a file or none, and `audit` takes one
 abbrev pub run_app : App
@@ -39,8 +40,8 @@ main_app = record bare_app { top = record bare_app.top { has_version = true; sub
 
 abbrev pub bayou_app : App
 bayou_app =
-    with_subcommand (with_subcommand (with_subcommand (with_subcommand (with_subcommand (with_subcommand (with_subcommand (with_subcommand (with_subcommand (with_subcommand main_app run_app.top) net_app.top) serve_app.top) connect_app.top) key_app.top) renew_app.top)
-    export_app.top) import_app.top) web_app.top) audit_app.top
+    with_subcommand (with_subcommand (with_subcommand (with_subcommand (with_subcommand (with_subcommand (with_subcommand (with_subcommand (with_subcommand (with_subcommand (with_subcommand main_app run_app.top) net_app.top) serve_app.top) connect_app.top) key_app.top) renew_app.top)
+    export_app.top) import_app.top) web_app.top) audit_app.top) check_app.top
 
 -- why the words, the program's own name before them, may name no task; there is nothing of that kind where they name one
 abbrev pub faults_of : List Text → Kinds
@@ -58,17 +59,19 @@ pub data Asked : Type 0 where
   an_export : Export → Asked
   an_import : Import → Asked
   a_web : Web → Asked
+  a_check : Check → Asked
 
 -- the folder that is named, as it is wherever a command that asks for one was entered
 abbrev pub folder_of : List Row → Text
 folder_of rows = text_of folder_name rows
 
--- of the commands that take a store as a whole, the one that was entered, or else a run
+-- of the commands that take a store as a whole, and `check`, the one that was entered, or else a run
 abbrev pub asked_beside : Text → List Row → Asked
 asked_beside name rows =
     if bytes_eq name (codes "renew") then a_renewal (renewal_of rows)
     else if bytes_eq name (codes "export") then an_export (export_of rows)
     else if bytes_eq name (codes "import") then an_import (import_of rows)
+    else if bytes_eq name (codes "check") then a_check (check_of rows)
     else a_run (input_of rows)
 
 -- of a person's commands, or of those, the one that was entered
@@ -87,7 +90,7 @@ asked_named name rows =
     else if bytes_eq name (codes "serve") then a_serve (service_of rows)
     else asked_of_person name rows
 
--- of the program's ten commands, the one that was entered
+-- of the program's commands, the one that was entered
 abbrev pub asked_by : Option (Text × List Row) → Asked
 asked_by None = a_run standard
 asked_by (Some (name, rows)) = asked_named name rows
@@ -109,6 +112,7 @@ task_seen (Renew renewing) = a_renewal (renewal_seen renewing)
 task_seen (Exports exporting) = an_export (export_seen exporting)
 task_seen (Imports importing) = an_import (import_seen importing)
 task_seen (Pages showing) = a_web (web_seen showing)
+task_seen (Checks checking) = a_check (check_seen checking)
 
 -- it is no mistake, but asks for a text: a help, or the version
 abbrev pub IsRequest : ErrorKind → Type 0

@@ -8,10 +8,12 @@
 ghost use Rattle.std.specs.Prelude.{◌≡◌, ◌∷◌, ◌++◌, [], ℕ, IfOk, List, Some, codes, false, map, true};
 ghost use Rattle.clap.specs.declared.builder.command.Command.TheViews.{out-Command as fields_of};
 ghost use Rattle.clap.specs.Words.{app_of, found_of, kind_of, rows_of, rule_of, subcommand_rows_of};
-ghost use Rattle.bayou_command.specs.Words.{AskFor, Names, a_connect, a_key, a_net, a_renewal, a_run, a_serve, a_web, an_audit, an_export, an_import, asked_beside, asked_by, asked_named, asked_of_person, audit_app, bayou_app, faults_of, file, folder_of, folder_rule, input_of, input_seen, main_app, net_app, run_app, standard, task_seen};
-ghost use Rattle.bayou_command.specs.Rows.{TakesNumbers, bare_export, connect_with, connect_words, export_words, import_with, import_words, key_words, plain_connection, plain_import, plain_renewal, plain_service, renew_with, renew_words, serve_with, serve_words, plain_web, web_with, web_words};
+ghost use Rattle.bayou_command.specs.Words.{AskFor, Names, a_check, a_connect, a_key, a_net, a_renewal, a_run, a_serve, a_web, an_audit, an_export, an_import, asked_beside, asked_by, asked_named, asked_of_person, audit_app, bayou_app, faults_of, file, folder_of, folder_rule, input_of, input_seen, main_app, net_app, run_app, standard, task_seen};
+ghost use Rattle.bayou_command.specs.Rows.{TakesNumbers, bare_export, check_words, connect_with, connect_words, export_words, import_with, import_words, key_words, plain_check, plain_connection, plain_import, plain_renewal, plain_service, renew_with, renew_words, serve_with, serve_words, plain_web, web_with, web_words};
 ghost use Rattle.bayou_command.specs.Inner.Stops.{StopsAt};
 
+mod check;
+mod checking;
 mod connect;
 mod connecting;
 mod export;
@@ -27,6 +29,8 @@ mod serving;
 mod showing;
 pub mod web;
 
+use check::{check_command, checking_in};
+pub use checking::Checking;
 use clap::builder::ValueParser;
 use clap::error::ErrorKind;
 use clap::{Arg, ArgMatches, Command, Error};
@@ -80,6 +84,7 @@ It prints the verdict, and for each session what became of each guarantee, asked
 The session didn't read its own Write: its read at place 2, at server 1, lacks the Write 0:1 of place 1. It asked for nothing, so
 the verdict is clean.
 
+`bayou check FILE` says of a script or an audit file which lines are wrong, where, and what was expected.
 `bayou run --help` has each line of a script, `bayou net --help` how a script is run over sockets, with journals in files,
 `bayou audit --help` each line of an audit file, `bayou serve --help` how one server is kept at a socket for clients of any kind,
 `bayou connect --help` how a person writes and reads at such servers, `bayou web --help` how on a page in a browser,
@@ -254,6 +259,9 @@ Pages: docs/LANGUAGE.md (programs), docs/GUARANTEES.md (what a session may ask f
 docs/RECOVERY.md (fuse, reopen, restart, again), docs/BOOK.md (totals, judge, survey, book),
 docs/TROUBLE.md (what to do about each fault), examples/README.md (scripts)."#;
 
+/// What the names of scripts and of audit files end with.
+const LINES_END: &str = ".jsonl";
+
 /// Where an input comes from.
 #[derive(Clone, Copy, Debug, PartialEq, Eq)]
 pub enum Source<'a> {
@@ -286,6 +294,8 @@ pub enum Task<'a> {
     Import(Importing<'a>),
     /// To show a store on a page.
     Web(Showing<'a>),
+    /// To tell every fault of a script or an audit file.
+    Check(Checking<'a>),
 }
 
 /// Why the words name no task.
@@ -392,7 +402,8 @@ fn bayou_command<'a>(alloc: Global) -> Result<Command<'a>, AllocError>
         .subcommand(export_command(alloc)?)?
         .subcommand(import_command(alloc)?)?
         .subcommand(web_command(alloc)?)?
-        .subcommand(audit_command(alloc)?)
+        .subcommand(audit_command(alloc)?)?
+        .subcommand(check_command(alloc)?)
 }
 
 /// The input that a command names.
@@ -427,6 +438,7 @@ fn task_beside<'a>(
         "renew" => Task::Renew(renewing_in(alloc, found)?),
         "export" => Task::Export(exporting_in(alloc, found)?),
         "import" => Task::Import(importing_in(alloc, found)?),
+        "check" => Task::Check(checking_in(found)),
         _ => Task::Run(source_in(found)),
     })
 }
@@ -483,7 +495,36 @@ pub fn read_words<'a, S: AsStr>(alloc: Global, words: &'a [S]) -> Result<Task<'a
 {
     match bayou_command(alloc)?.try_get_matches_from(words) {
         Ok(matches) => Ok(task_in(alloc, &matches)?),
-        Err(error) => Err(Stop::of(alloc, &error)),
+        Err(error) => {
+            let stop = Stop::of(alloc, &error);
+            Err(with_tip(alloc, stop, file_meant(words)))
+        }
+    }
+}
+
+// The name of a file that stands where a command must.
+fn file_meant<S: AsStr>(words: &[S]) -> Option<&str> {
+    let word = words.get(1)?.as_str();
+    if word.ends_with(LINES_END) {
+        Some(word)
+    } else {
+        None
+    }
+}
+
+// The same, with the command that a file may be meant for, where one stands in place of a command.
+fn with_tip(alloc: Global, stop: Stop, file: Option<&str>) -> Stop
+    ensures memory { stop ≡ Stop.Memory → result ≡ Stop.Memory }
+    ensures kind { (kind : ErrorKind) → StopsAt kind stop → StopsAt kind result }
+{
+    match (stop, file) {
+        (Stop::Refused(text), Some(file)) => {
+            match format!(in alloc; "{text}\n  tip: to run a script, call: bayou run {file}\n") {
+                Ok(text) => Stop::Refused(text),
+                Err(_) => Stop::Memory,
+            }
+        }
+        (stop, _) => stop,
     }
 }
 
@@ -727,4 +768,17 @@ pub fn pages_are_named()
     ensures no_key { faults_of (web_with (codes "--key" ∷ [] ∷ [])) ≡ ErrorKind.InvalidValue ∷ [] }
     ensures state_twice { faults_of (web_with (codes "--state" ∷ codes "u" ∷ [])) ≡ ErrorKind.ArgumentConflict ∷ [] }
     ensures no_option { faults_of (web_with (codes "--walk" ∷ [])) ≡ ErrorKind.UnknownArgument ∷ [] }
+{}
+
+/// A law: `bayou check` with one file, or with `-` for the standard input, asks for every fault of it, with `--json`, before or behind it, as lines of JSON. Without
+/// a file, with two, or with a word that is no option it is refused.
+pub fn checks_are_named()
+    ensures plain { AskFor (check_words (codes "f" ∷ [])) (a_check plain_check) }
+    ensures dash { AskFor (check_words (codes "-" ∷ [])) (a_check (record plain_check { file = standard })) }
+    ensures json { AskFor (check_words (codes "--json" ∷ codes "f" ∷ [])) (a_check (record plain_check { is_json = true })) }
+    ensures turned { AskFor (check_words (codes "f" ∷ codes "--json" ∷ [])) (a_check (record plain_check { is_json = true })) }
+    ensures bare { faults_of (check_words []) ≡ ErrorKind.MissingRequiredArgument ∷ [] }
+    ensures no_file { faults_of (check_words (codes "--json" ∷ [])) ≡ ErrorKind.MissingRequiredArgument ∷ [] }
+    ensures two_files { faults_of (check_words (codes "f" ∷ codes "g" ∷ [])) ≡ ErrorKind.UnknownArgument ∷ [] }
+    ensures no_option { faults_of (check_words (codes "--walk" ∷ codes "f" ∷ [])) ≡ ErrorKind.UnknownArgument ∷ [] }
 {}

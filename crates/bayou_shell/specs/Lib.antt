@@ -1,4 +1,5 @@
 pub mod Audit
+pub mod Checks
 pub mod Exports
 pub mod Imports
 pub mod Inner

@@ -1,13 +1,14 @@
 -- What the program does with the words that it is called with.
 use Rattle.std.specs.Prelude.{◌≡◌, ◌<◌, ℕ, Bool, List, Option, IfErr, IfSome, Result, Ok, Err}
 use Rattle.std.specs.Io.KnownBytes.{Appends, Keeps}
+use Rattle.bayou_command.specs.Check.{Check as Checking}
 use Rattle.bayou_command.specs.Connect.{Connection}
 use Rattle.bayou_command.specs.Export.{Export as Rows}
 use Rattle.bayou_command.specs.Import.{Import as Lines}
 use Rattle.bayou_command.specs.Web.{Web as Shown}
 use Rattle.bayou_command.specs.Renew.{Renewal as Asking}
 use Rattle.bayou_command.specs.Serve.{Service}
-use Rattle.bayou_command.specs.Words.{AreMistaken, AskForText, Asked, Input, a_connect, a_key, a_net, a_renewal, a_run, a_serve, a_web, an_audit, an_export, an_import, standard}
+use Rattle.bayou_command.specs.Words.{AreMistaken, AskForText, Asked, Input, a_check, a_connect, a_key, a_net, a_renewal, a_run, a_serve, a_web, an_audit, an_export, an_import, standard}
 use Rattle.bayou_print.specs.declared.ended.Ended.{Ended}
 use Rattle.bayou_print.specs.declared.fault.RunFault.{RunFault}
 use Rattle.bayou_print.specs.declared.fault.RunFault.TheVariants.{Line, Memory, Device, Network, Output}
@@ -16,6 +17,7 @@ use Rattle.bayou_print.specs.Fault.{ended_status, status_of}
 use Rattle.bayou_print.specs.Telling.{IsPut, TellsEnd, TellsFault}
 use Rattle.bayou_print.specs.Turns.{EndsReading}
 use Rattle.bayou_shell.specs.Audit.{AuditsAs}
+use Rattle.bayou_shell.specs.Checks.{IsCheckupOf}
 use Rattle.bayou_shell.specs.Exports.{IsExtractOf}
 use Rattle.bayou_shell.specs.Imports.{IsIntakeOf}
 use Rattle.bayou_shell.specs.Pages.{IsWindowOf}
@@ -24,7 +26,7 @@ use Rattle.bayou_shell.specs.Plans.{IsCallOf, IsKeyOf, IsServiceOf}
 use Rattle.bayou_shell.specs.Renewals.{IsRenewalOf}
 use Rattle.bayou_shell.specs.Run.{RunsAs}
 use Rattle.bayou_shell.specs.declared.errand.Errand.{Errand}
-use Rattle.bayou_shell.specs.declared.errand.Errand.TheVariants.{Connect, Done, Export, Import, Key, Net, Renew, Serve, Web}
+use Rattle.bayou_shell.specs.declared.errand.Errand.TheVariants.{Check, Connect, Done, Export, Import, Key, Net, Renew, Serve, Web}
 use Rattle.bayou_streams.specs.Account.{Account}
 use Rattle.bayou_streams.specs.Written.{AppendsFront}
 
@@ -75,6 +77,7 @@ ServesAs wanted (Ok (Renew renewal)) old new = ⊥
 ServesAs wanted (Ok (Export extract)) old new = ⊥
 ServesAs wanted (Ok (Import intake)) old new = ⊥
 ServesAs wanted (Ok (Web window)) old new = ⊥
+ServesAs wanted (Ok (Check checkup)) old new = ⊥
 ServesAs wanted (Err fault) old new = (fault ≡ Memory) × Keeps old new
 
 -- The servers are left to be asked what lines say, as the words say; or memory ran out. Nothing is printed yet.
@@ -88,6 +91,7 @@ ConnectsAs wanted (Ok (Renew renewal)) old new = ⊥
 ConnectsAs wanted (Ok (Export extract)) old new = ⊥
 ConnectsAs wanted (Ok (Import intake)) old new = ⊥
 ConnectsAs wanted (Ok (Web window)) old new = ⊥
+ConnectsAs wanted (Ok (Check checkup)) old new = ⊥
 ConnectsAs wanted (Err fault) old new = (fault ≡ Memory) × Keeps old new
 
 -- The key is left to be made, as the words say; or memory ran out. Nothing is printed yet.
@@ -101,6 +105,7 @@ KeysAs name file (Ok (Renew renewal)) old new = ⊥
 KeysAs name file (Ok (Export extract)) old new = ⊥
 KeysAs name file (Ok (Import intake)) old new = ⊥
 KeysAs name file (Ok (Web window)) old new = ⊥
+KeysAs name file (Ok (Check checkup)) old new = ⊥
 KeysAs name file (Err fault) old new = (fault ≡ Memory) × Keeps old new
 
 -- The journal is left to be made, as the words say; or memory ran out. Nothing is printed yet.
@@ -114,6 +119,7 @@ RenewsAs wanted (Ok (Key wish)) old new = ⊥
 RenewsAs wanted (Ok (Export extract)) old new = ⊥
 RenewsAs wanted (Ok (Import intake)) old new = ⊥
 RenewsAs wanted (Ok (Web window)) old new = ⊥
+RenewsAs wanted (Ok (Check checkup)) old new = ⊥
 RenewsAs wanted (Err fault) old new = (fault ≡ Memory) × Keeps old new
 
 -- The rows are left to be printed, as the words say; or memory ran out. Nothing is printed yet.
@@ -127,6 +133,7 @@ ExportsAs wanted (Ok (Key wish)) old new = ⊥
 ExportsAs wanted (Ok (Renew renewal)) old new = ⊥
 ExportsAs wanted (Ok (Import intake)) old new = ⊥
 ExportsAs wanted (Ok (Web window)) old new = ⊥
+ExportsAs wanted (Ok (Check checkup)) old new = ⊥
 ExportsAs wanted (Err fault) old new = (fault ≡ Memory) × Keeps old new
 
 -- The lines are left to be put, as the words say; or memory ran out. Nothing is printed yet.
@@ -140,6 +147,7 @@ ImportsAs wanted (Ok (Key wish)) old new = ⊥
 ImportsAs wanted (Ok (Renew renewal)) old new = ⊥
 ImportsAs wanted (Ok (Export extract)) old new = ⊥
 ImportsAs wanted (Ok (Web window)) old new = ⊥
+ImportsAs wanted (Ok (Check checkup)) old new = ⊥
 ImportsAs wanted (Err fault) old new = (fault ≡ Memory) × Keeps old new
 
 -- The page is left to be served, as the words say; or memory ran out. Nothing is printed yet.
@@ -153,7 +161,22 @@ ShowsAs wanted (Ok (Key wish)) old new = ⊥
 ShowsAs wanted (Ok (Renew renewal)) old new = ⊥
 ShowsAs wanted (Ok (Export extract)) old new = ⊥
 ShowsAs wanted (Ok (Import intake)) old new = ⊥
+ShowsAs wanted (Ok (Check checkup)) old new = ⊥
 ShowsAs wanted (Err fault) old new = (fault ≡ Memory) × Keeps old new
+
+-- The text is left to be checked, as the words say; or memory ran out. Nothing is printed yet.
+abbrev pub ChecksTextAs : Checking → Result Errand RunFault → (old new : Option (List ℕ)) → Type 0
+ChecksTextAs wanted (Ok (Check checkup)) old new = IsCheckupOf wanted checkup × Keeps old new
+ChecksTextAs wanted (Ok (Done status)) old new = ⊥
+ChecksTextAs wanted (Ok (Net folder script)) old new = ⊥
+ChecksTextAs wanted (Ok (Serve service)) old new = ⊥
+ChecksTextAs wanted (Ok (Connect call)) old new = ⊥
+ChecksTextAs wanted (Ok (Key wish)) old new = ⊥
+ChecksTextAs wanted (Ok (Renew renewal)) old new = ⊥
+ChecksTextAs wanted (Ok (Export extract)) old new = ⊥
+ChecksTextAs wanted (Ok (Import intake)) old new = ⊥
+ChecksTextAs wanted (Ok (Web window)) old new = ⊥
+ChecksTextAs wanted (Err fault) old new = (fault ≡ Memory) × Keeps old new
 
 -- what becomes of what is asked for on an input of these bytes
 abbrev pub Works : Asked → List ℕ → Result Errand RunFault → (old new : Option (List ℕ)) → Type 0
@@ -167,6 +190,7 @@ Works (a_renewal wanted) input came old new = RenewsAs wanted came old new
 Works (an_export wanted) input came old new = ExportsAs wanted came old new
 Works (an_import wanted) input came old new = ImportsAs wanted came old new
 Works (a_web wanted) input came old new = ShowsAs wanted came old new
+Works (a_check wanted) input came old new = ChecksTextAs wanted came old new
 
 -- what is left to be done then: nothing where a fault was told
 abbrev pub errand_of : Result Errand RunFault → Errand
@@ -184,6 +208,7 @@ IsWell (Renew renewal) = Unit {0}
 IsWell (Export extract) = Unit {0}
 IsWell (Import intake) = Unit {0}
 IsWell (Web window) = Unit {0}
+IsWell (Check checkup) = Unit {0}
 
 abbrev pub input_of_asked : Asked → Input
 input_of_asked (a_run source) = source
@@ -196,6 +221,7 @@ input_of_asked (a_renewal wanted) = standard
 input_of_asked (an_export wanted) = standard
 input_of_asked (an_import wanted) = standard
 input_of_asked (a_web wanted) = standard
+input_of_asked (a_check wanted) = standard
 
 -- What becomes of what is asked for on a file: the file may be refused, or memory may run out before it is opened, and nothing is printed;
 -- else it is done on what a reader of it gives, which is at fault only where a call of it failed or no turn was left.

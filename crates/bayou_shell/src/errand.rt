@@ -1,4 +1,5 @@
 //! What the words leave to be done.
+use crate::checked::Checkup;
 use crate::connected::Call;
 use crate::exported::Extract;
 use crate::imported::Intake;
@@ -32,4 +33,6 @@ pub enum Errand {
     Import(Intake),
     /// To show a store on a page.
     Web(Window),
+    /// To tell every fault of a text.
+    Check(Checkup),
 }

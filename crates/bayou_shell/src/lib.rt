@@ -18,6 +18,8 @@
 #![tactic(auto)]
 
 pub mod audit;
+pub mod cause;
+pub mod checked;
 pub mod connected;
 pub mod errand;
 pub mod exported;
@@ -35,6 +37,8 @@ pub mod shown;
 mod telling;
 
 pub use audit::run_audit;
+pub use cause::tell_device;
+pub use checked::{Checkup, check_input, run_checked};
 pub use connected::{Call, run_connected};
 pub use errand::Errand;
 pub use exported::{Extract, run_exported};

@@ -13,6 +13,7 @@ ghost use Rattle.bayou_shell.specs.Program.{IsWell, TellsOf, Works, WorksOn, Wri
 ghost use Rattle.bayou_streams.specs.Account.{Pays, account};
 
 use crate::audit::run_audit;
+use crate::checked::Checkup;
 use crate::connected::Call;
 use crate::errand::Errand;
 use crate::exported::Extract;
@@ -63,7 +64,7 @@ pub fn refuse_words<E: Write>(errors: &mut Output<E>, error: &io::Error) -> u8
     REFUSED
 }
 
-/// Where the input of a task comes from. A server that is to live, a key, a renewal and an export have none, and lines for servers and of an import are
+/// Where the input of a task comes from. A server that is to live, a key, a renewal and an export have none, and lines for servers, of an import and of what is checked are
 /// read only as they are done: for these it is the standard input, which isn't read.
 fn source_of<'a>(task: &Task<'a>) -> Source<'a>
     ensures { input_seen result ≡ input_of_asked (task_seen task.now) }
@@ -72,7 +73,8 @@ fn source_of<'a>(task: &Task<'a>) -> Source<'a>
         Task::Run(source) | Task::Audit(source) => *source,
         Task::Net { script, .. } => *script,
         Task::Serve(_) | Task::Connect(_) | Task::Key { .. } => Source::Standard,
-        Task::Renew(_) | Task::Export(_) | Task::Import(_) | Task::Web(_) => Source::Standard,
+        Task::Renew(_) | Task::Export(_) | Task::Import(_) => Source::Standard,
+        Task::Web(_) | Task::Check(_) => Source::Standard,
     }
 }
 
@@ -110,6 +112,7 @@ fn work<R: Read, W: Write>(
         Task::Export(exporting) => Ok(Errand::Export(Extract::of(alloc, &exporting)?)),
         Task::Import(importing) => Ok(Errand::Import(Intake::of(alloc, &importing)?)),
         Task::Web(showing) => Ok(Errand::Web(Window::of(alloc, &showing)?)),
+        Task::Check(checking) => Ok(Errand::Check(Checkup::of(alloc, &checking)?)),
     }
 }
 

@@ -15,5 +15,6 @@ returns c =
     let seventh = c.in_ok-subcommand-7.ensures.shape c.in_ok-export_command.ensures.local ∙ ap₂ with_subcommand sixth (ap top c.in_ok-export_command.ensures.app) in
     let eighth = c.in_ok-subcommand-8.ensures.shape c.in_ok-import_command.ensures.local ∙ ap₂ with_subcommand seventh (ap top c.in_ok-import_command.ensures.app) in
     let ninth = c.in_ok-subcommand-9.ensures.shape c.in_ok-web_command.ensures.local ∙ ap₂ with_subcommand eighth (ap top c.in_ok-web_command.ensures.app) in
-    IfOk-weaker c.subcommand-10.result _ _
-    (λ command h. h.shape c.in_ok-audit_command.ensures.local ∙ ap₂ with_subcommand ninth (ap top c.in_ok-audit_command.ensures.app)) c.subcommand-10.ensures
+    let tenth = c.in_ok-subcommand-10.ensures.shape c.in_ok-audit_command.ensures.local ∙ ap₂ with_subcommand ninth (ap top c.in_ok-audit_command.ensures.app) in
+    IfOk-weaker c.subcommand-11.result _ _
+    (λ command h. h.shape c.in_ok-check_command.ensures.local ∙ ap₂ with_subcommand tenth (ap top c.in_ok-check_command.ensures.app)) c.subcommand-11.ensures

@@ -17,6 +17,6 @@ returns-in_ok-task_in-in-Ok g c =
 pub returns-in-Err : goal.returns-in-Err
 returns-in-Err g c =
     let words = map g.S.AsStr.text c.args.words.now in
-    stopped words c.in-Err.error c.of.result
+    stopped words c.in-Err.error c.with_tip.result
     (subst (λ (app : App). is_simple_and_free app ≡ true → HasKind (fault_of app words) c.in-Err.error) c.in_ok-bayou_command.ensures c.in-Err.ensures.kinds simple)
-    c.of.ensures.memory c.of.ensures.kind
+    (λ lacked. c.with_tip.ensures.memory (c.of-stop.ensures.memory lacked)) (c.with_tip.ensures.kind _ c.of-stop.ensures.kind)
