@@ -171,7 +171,7 @@ class Tries:
         return servers
 
     def serve(self):
-        page, recovery, folder = self.pages["docs/SERVE.md"], self.pages["docs/RECOVERY.md"], self.folder()
+        page, trouble, folder = self.pages["docs/SERVE.md"], self.pages["docs/TROUBLE.md"], self.folder()
         servers = self.started(page.take("mkdir store"), folder)
         expected = self.placed(page.take("serving 0 at")).strip()
         self.that("SERVE: what a server prints", servers[0].serving(), expected)
@@ -182,13 +182,13 @@ class Tries:
         with bayou.Session([server.address() for server in servers]) as session:
             self.that("SERVE: each has the Write", [soon(lambda: session.read("room/9", at)) for at in range(3)], ["kim"] * 3)
         self.that("SERVE: a key, and a server with it", self.key(page.take("bayou key room.key"), folder))
-        self.that("RECOVERY: a list and a dump", self.shell(recovery.take("echo list"), folder), ["dump %d writes 1" % at for at in range(3)])
+        self.that("TROUBLE: a list and a dump", self.shell(trouble.take("echo list"), folder), ["dump %d writes 1" % at for at in range(3)])
         with open(os.path.join(folder, "day.list")) as told, open(os.path.join(folder, "day.book")) as book:
-            self.that("RECOVERY: what they say", (told.readline(), len(book.readlines())), ('room/9 text "kim"\n', 4))
+            self.that("TROUBLE: what they say", (told.readline(), len(book.readlines())), ('room/9 text "kim"\n', 4))
         servers[0].end()
         os.rename(os.path.join(folder, "store", "server-0.journal"), os.path.join(folder, "lost"))
-        servers[0] = self.started(recovery.take("bayou serve --id 0"), folder)[0]
-        self.that("RECOVERY: the lost server is back", servers[0].serving(), self.placed("serving 0 at 127.0.0.1:7000 holds 1,0,0"))
+        servers[0] = self.started(trouble.take("bayou serve --id 0"), folder)[0]
+        self.that("TROUBLE: the lost server is back", servers[0].serving(), self.placed("serving 0 at 127.0.0.1:7000 holds 1,0,0"))
         self.that("SERVE: told ends", [server.end()[0] for server in servers], [0] * 3)
 
     def key(self, commands, folder):
@@ -284,9 +284,9 @@ class Tries:
                       names(seen))
 
     def book(self):
-        line = self.pages["docs/BOOK.md"].take("totals reads")
+        line = self.pages["docs/AUDIT.md"].take("totals reads")
         printed = [open(path).read() for path in glob.glob(os.path.join(TOP, "examples", "*.expected"))]
-        self.that("BOOK: totals as an example has them", any(line in text for text in printed))
+        self.that("AUDIT: totals as an example has them", any(line in text for text in printed))
 
     def rest(self):
         """Nothing is left but forms."""

@@ -13,7 +13,7 @@ from meeting import HELLO, KNOWN, PROOF, count_of, dump_of, free_port, soon
 sys.path.insert(0, os.path.join("..", "clients", "python"))
 import bayou  # noqa: E402
 
-OWN = r"bayou: server %s has other Writes of this server%s: this journal is an old copy, or there were two of it; docs/RECOVERY\.md"
+OWN = r"bayou: server %s has other Writes of this server%s: this journal is an old copy, or there were two of it; docs/TROUBLE\.md"
 OTHERS = r"bayou: server %d has other Writes of server %d%s"
 LOST = "bayou: lost Writes of its own; no Write is taken until --restore"
 # What tells that something differs, or isn't compared.

@@ -3,6 +3,7 @@ Call: python3 pages.py PROGRAM. Its last line is 'N passed, M failed'.
 
 What each of them tells is read as one table: of the program itself, under the name '', and of each command, which options it takes."""
 import re
+import shutil
 import subprocess
 import sys
 
@@ -88,6 +89,11 @@ def main():
     checks.that("what bash offers behind --dir", "python" in completed("bayou", "net", "--dir", "py"), True)
     checks.that("what bash offers for a file", "pages.py" in {it.rpartition("/")[2] for it in completed("bayou", "run", "python/pages")}, True)
     checks.that("what bash offers behind help", completed("bayou", "help", ""), set(helps) - {""})
+    version = told([sys.argv[1], "--version"])
+    if shutil.which("rt"):
+        checks.that("the version names the logic of this kit", re.findall(r"\(logic ([0-9a-f]+)\)$", version.strip()), re.findall(r"logic ([0-9a-f]+)", told(["rt", "version"])))
+    else:
+        checks.that("the version names a logic", re.fullmatch(r"bayou [0-9.]+ \(logic [0-9a-f]{16}\)\n", version) is not None, True)
     print("%d passed, %d failed" % (checks.passed, checks.failed))
     return 1 if checks.failed else 0
 

@@ -26,7 +26,7 @@ SERVE = ["serve", "--id", str(PULLER), "--servers", str(COUNT), "--dir", ".", "-
 
 
 class Left:
-    """What a cut of power left of a journal, and what docs/RECOVERY.md says of it."""
+    """What a cut of power left of a journal, and what docs/TROUBLE.md says of it."""
 
     def __init__(self, bytes_left):
         self.bytes = bytes_left

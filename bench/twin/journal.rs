@@ -1,4 +1,4 @@
-//! Devices in memory, and journals on them (docs/FORMATS.md, docs/RECOVERY.md).
+//! Devices in memory, and journals on them (docs/FORMATS.md, docs/TROUBLE.md).
 
 use crate::sha256::{digest_of, Digest};
 

@@ -1,4 +1,4 @@
-//! A script's run: its servers, its sessions, and the book of what they were served (docs/FORMATS.md, docs/BOOK.md).
+//! A script's run: its servers, its sessions, and the book of what they were served (docs/FORMATS.md, docs/AUDIT.md).
 
 use crate::judge::survey;
 use crate::line::{Asks, Command, Entry, What, SESSIONS};

@@ -1,4 +1,4 @@
-//! A server: what it holds, behind its journal (docs/RECOVERY.md), and how it takes Writes from another (docs/GUARANTEES.md).
+//! A server: what it holds, behind its journal (docs/TROUBLE.md), and how it takes Writes from another (docs/GUARANTEES.md).
 
 use crate::journal::{self, Device, Journal, Opened};
 use crate::line::SESSIONS;

@@ -57,7 +57,7 @@ What is wrong is told on standard error, in one line. Exit status: 0 all is prin
 database; 2 the command line is refused; 3 a journal is none (it isn't there, is in use, damaged or another server's), the key can't be read, or
 memory, a device or the output failed. Where the output failed a part may be printed: the first line says how many lines there should be.
 
-Pages: docs/CONNECT.md (how it is used), docs/FORMATS.md (the lines), docs/RECOVERY.md (backups), docs/TROUBLE.md (what to do about each fault)."#;
+Pages: docs/CONNECT.md (how it is used), docs/FORMATS.md (the lines), docs/TROUBLE.md (backups, and what to do about each fault)."#;
 
 // The command with the options that say which servers are asked.
 fn with_asked<'a>(alloc: Global, command: Command<'a>) -> Result<Command<'a>, AllocError>

@@ -95,6 +95,9 @@ Exit status: 0 nothing is wrong; 1 a verdict is broken; 2 the input or the comma
 device, the network, the input or the output failed.
 docs/TROUBLE.md says what to do about each fault; examples/ has scripts and audit files to begin from."#;
 
+// The version, and the logic that each function is proved in, as the prover names it.
+const VERSION: &str = "0.1.0 (logic dac8208d650f15bf)";
+
 const RUN_ABOUT: &str = "Reads a script, checks it, and prints a line for each answer.";
 
 const RUN_FILE: &str = "The script; without it, and where it is -, the standard input";
@@ -154,7 +157,7 @@ line. Exit status: 0 clean; 1 a verdict was broken; 2 the script or the command 
 device (a journal that can't be opened, is another server's or in use by another run), the network, the input or the output failed.
 
 Pages: docs/NET.md (two servers on one machine, their journals, each fault), docs/FORMATS.md (lines in and out), docs/GUARANTEES.md
-(what a session may ask for), docs/RECOVERY.md (reopen), docs/TROUBLE.md (what to do about each fault), examples/net/ (scripts)."#;
+(what a session may ask for), docs/TROUBLE.md (reopen, and what to do about each fault), examples/net/ (scripts)."#;
 
 const AUDIT_ABOUT: &str =
     "Reads entries and dumps, and says whether each session had what it asked for.";
@@ -256,8 +259,8 @@ Exit status: 0 the script was run; 1 a verdict (judge) was broken; 2 the script 
 survey was; 3 memory, a device as the script begins, the input or the output failed.
 
 Pages: docs/LANGUAGE.md (programs), docs/GUARANTEES.md (what a session may ask for; pull, resend), docs/FORMATS.md (lines in and out),
-docs/RECOVERY.md (fuse, reopen, restart, again), docs/BOOK.md (totals, judge, survey, book),
-docs/TROUBLE.md (what to do about each fault), examples/README.md (scripts)."#;
+docs/AUDIT.md (totals, judge, survey, book), docs/TROUBLE.md (fuse, reopen, restart, again, and what to do about each fault),
+examples/README.md (scripts)."#;
 
 /// What the names of scripts and of audit files end with.
 const LINES_END: &str = ".jsonl";
@@ -385,7 +388,7 @@ fn main_command<'a>(alloc: Global) -> Result<Command<'a>, AllocError>
     ensures { IfOk result (λ command. app_of command ≡ main_app) }
 {
     let command = Command::new(alloc, "bayou").bin_name("bayou")?;
-    let command = command.version("0.1.0").about(ABOUT).after_help(EXAMPLE);
+    let command = command.version(VERSION).about(ABOUT).after_help(EXAMPLE);
     Ok(command.subcommand_required(true))
 }
 

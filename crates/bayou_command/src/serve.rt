@@ -62,7 +62,7 @@ fault, since a wrong DIR would else be a store that has lost everything.
 
 --restore takes the place of --new for a server whose journal is lost: it makes the journal again, of all that every other server has, before it
 serves. What none of them has is lost, and its names are given to other Writes. Where one of them is away nothing is restored: bring it up, or put
---without I in the place of its --peer (docs/RECOVERY.md).
+--without I in the place of its --peer (docs/TROUBLE.md).
 
 Three servers on one machine, each in a terminal of its own:
 
@@ -93,7 +93,7 @@ A signal, as of Ctrl-C or kill, is a clean end: each Write is synced before anyb
 What is wrong is told on standard error, in one line. Exit status: 0 the standard input ended, with --until-input-ends; 2 the command line
 is refused; 3 a device, the journal (it isn't there, is another server's, or is in use), memory, the port or the output failed.
 
-Pages: docs/SERVE.md (a store that lives, day by day), docs/PROTOCOL.md (what clients ask and are answered), docs/RECOVERY.md (what a
+Pages: docs/SERVE.md (a store that lives, day by day), docs/PROTOCOL.md (what clients ask and are answered), docs/TROUBLE.md (what a
 journal keeps)."#;
 
 // The command with the options that must be there.

@@ -43,9 +43,9 @@ difference_text server origin (Some first) =
 -- the same where the origin is this server
 abbrev pub own_difference_text : (server own : ℕ) → (first : Option ℕ) → List ℕ
 own_difference_text server own None =
-    codes "bayou: server " ++ (decimal server ++ codes " has other Writes of this server: this journal is an old copy, or there were two of it; docs/RECOVERY.md\n")
+    codes "bayou: server " ++ (decimal server ++ codes " has other Writes of this server: this journal is an old copy, or there were two of it; docs/TROUBLE.md\n")
 own_difference_text server own (Some first) =
-    codes "bayou: server " ++ (decimal server ++ (codes " has other Writes of this server from " ++ (decimal own ++ (codes ":" ++ (decimal first ++ codes " on: this journal is an old copy, or there were two of it; docs/RECOVERY.md\n")))))
+    codes "bayou: server " ++ (decimal server ++ (codes " has other Writes of this server from " ++ (decimal own ++ (codes ":" ++ (decimal first ++ codes " on: this journal is an old copy, or there were two of it; docs/TROUBLE.md\n")))))
 
 -- a start dropped a torn entry of so many bytes of the journal of this name; or one all of whose bytes were there
 abbrev pub torn_text : (path : List ℕ) → (dropped : ℕ) → List ℕ

@@ -85,12 +85,12 @@ fn difference_line(
     match (first, origin == own) {
         (Some(first), true) => {
             format!(in alloc;
-                "bayou: server {server} has other Writes of this server from {of}:{first} on: this journal is an old copy, or there were two of it; docs/RECOVERY.md\n"
+                "bayou: server {server} has other Writes of this server from {of}:{first} on: this journal is an old copy, or there were two of it; docs/TROUBLE.md\n"
             )
         }
         (None, true) => {
             format!(in alloc;
-                "bayou: server {server} has other Writes of this server: this journal is an old copy, or there were two of it; docs/RECOVERY.md\n"
+                "bayou: server {server} has other Writes of this server: this journal is an old copy, or there were two of it; docs/TROUBLE.md\n"
             )
         }
         (Some(first), false) => {
