@@ -12,8 +12,9 @@ from meeting import free_port
 # Where not each bit is tried, every so many are, and each of these first bytes of the first and the last entries.
 STEP = 997
 EDGE_BYTES = 3
-# How many processes try them at once.
+# How many processes try them at once, some bits and each one: a call mostly waits for the disk and for its threads.
 AT_ONCE = 4
+ALL_AT_ONCE = 64
 DROPPED = r"bayou: .*: the last entry is damaged: its [0-9]+ bytes from byte [0-9]+ on were dropped\n"
 TORN = r"bayou: dropped [0-9]+ bytes of .*\n"
 DAMAGED = r"bayou: .*: it is whole up to byte [0-9]+, and the [0-9]+ bytes behind that are damaged; nothing was changed\n"
@@ -99,7 +100,8 @@ class Bits:
 
     def go(self, each, name):
         bits = list(places(self.whole, self.starts, each))
-        parts = [bits[at::AT_ONCE] for at in range(AT_ONCE)]
+        at_once = ALL_AT_ONCE if each else AT_ONCE
+        parts = [bits[at::at_once] for at in range(at_once)]
         begun = [(self.calls(part), part) for part in parts if part]
         wrong = []
         for (call, told), part in begun:
