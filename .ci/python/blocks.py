@@ -27,7 +27,6 @@ FORMS = {
     "docs/CONNECT.md": ["room/blue/2026-12-07/09", "rlwrap bayou connect"],
     "docs/FORMATS.md": ["bayou-store-1 room"],
     "docs/LANGUAGE.md": ['{"check": [condition, ..]'],
-    "docs/NET.md": [".ci/net "],
     "docs/SERVE.md": ["ssh -N", "mkdir new", 'WORDS="', "apt install"],
 }
 
