@@ -11,21 +11,21 @@ use Rattle.bayou_command.specs.Connect.{Connection, connect_app, connection_of, 
 use Rattle.bayou_command.specs.Export.{Export, export_app, export_of, export_seen}
 use Rattle.bayou_command.specs.Import.{Import, import_app, import_of, import_seen}
 use Rattle.bayou_command.specs.Key.{key_app}
-use Rattle.bayou_command.specs.Options.{text_of}
+use Rattle.bayou_command.specs.Options.{flag_of, flag_rule, text_of}
 use Rattle.bayou_command.specs.Renew.{Renewal, renew_app, renewal_of, renewal_seen}
 use Rattle.bayou_command.specs.Web.{Web, web_app, web_of, web_seen}
 use Rattle.bayou_command.specs.Serve.{Service, serve_app, service_of, service_seen}
 use Rattle.bayou_command.specs.declared.Stop.{Stop}
 use Rattle.bayou_command.specs.declared.Stop.TheVariants as stops
 use Rattle.bayou_command.specs.declared.Task.{Task}
-use Rattle.bayou_command.specs.declared.Task.TheVariants.{Run, Audit, Net, Serve, Connect, Key, Renew, Export as Exports, Import as Imports, Check as Checks, Web as Pages}
+use Rattle.bayou_command.specs.declared.Task.TheVariants.{Run, Audit, Explain, Net, Serve, Connect, Key, Renew, Export as Exports, Import as Imports, Check as Checks, Web as Pages}
 
--- `run` takes a file or none, and `audit` takes one
+-- `run` takes a file or none, and `audit` takes one, and whether it is explained
 abbrev pub run_app : App
 run_app = with_rule (new_app (codes "run")) file_rule
 
 abbrev pub audit_app : App
-audit_app = with_rule (new_app (codes "audit")) (record file_rule { required = true })
+audit_app = with_rule (with_rule (new_app (codes "audit")) (flag_rule (codes "explain"))) (record file_rule { required = true })
 
 -- `net` takes a folder, and a file or none
 abbrev pub net_app : App
@@ -51,6 +51,7 @@ faults_of words = fault_of bayou_app words
 pub data Asked : Type 0 where
   a_run : Input → Asked
   an_audit : Input → Asked
+  an_explanation : Input → Asked
   a_net : Text → Input → Asked
   a_serve : Service → Asked
   a_connect : Connection → Asked
@@ -64,6 +65,10 @@ pub data Asked : Type 0 where
 -- the folder that is named, as it is wherever a command that asks for one was entered
 abbrev pub folder_of : List Row → Text
 folder_of rows = text_of folder_name rows
+
+-- an audit of the file, or one that is explained
+abbrev pub audit_of : List Row → Asked
+audit_of rows = if flag_of (codes "explain") rows then an_explanation (input_of rows) else an_audit (input_of rows)
 
 -- of the commands that take a store as a whole, and `check`, the one that was entered, or else a run
 abbrev pub asked_beside : Text → List Row → Asked
@@ -85,7 +90,7 @@ asked_of_person name rows =
 -- and of all commands
 abbrev pub asked_named : Text → List Row → Asked
 asked_named name rows =
-    if bytes_eq name (codes "audit") then an_audit (input_of rows)
+    if bytes_eq name (codes "audit") then audit_of rows
     else if bytes_eq name (codes "net") then a_net (folder_of rows) (input_of rows)
     else if bytes_eq name (codes "serve") then a_serve (service_of rows)
     else asked_of_person name rows
@@ -104,6 +109,7 @@ pub record AskFor (words : List Text) (asked : Asked) : Type 0 where
 abbrev pub task_seen : Task → Asked
 task_seen (Run source) = a_run (input_seen source)
 task_seen (Audit source) = an_audit (input_seen source)
+task_seen (Explain source) = an_explanation (input_seen source)
 task_seen (Net folder script) = a_net folder.now (input_seen script)
 task_seen (Serve serving) = a_serve (service_seen serving)
 task_seen (Connect connecting) = a_connect (connection_seen connecting)

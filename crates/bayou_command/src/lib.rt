@@ -8,10 +8,11 @@
 ghost use Rattle.std.specs.Prelude.{◌≡◌, ◌∷◌, ◌++◌, [], ℕ, IfOk, List, Some, codes, false, map, true};
 ghost use Rattle.clap.specs.declared.builder.command.Command.TheViews.{out-Command as fields_of};
 ghost use Rattle.clap.specs.Words.{app_of, found_of, kind_of, rows_of, rule_of, subcommand_rows_of};
-ghost use Rattle.bayou_command.specs.Words.{AskFor, Names, a_check, a_connect, a_key, a_net, a_renewal, a_run, a_serve, a_web, an_audit, an_export, an_import, asked_beside, asked_by, asked_named, asked_of_person, audit_app, bayou_app, faults_of, file, folder_of, folder_rule, input_of, input_seen, main_app, net_app, run_app, standard, task_seen};
+ghost use Rattle.bayou_command.specs.Words.{AskFor, Names, a_check, a_connect, a_key, a_net, a_renewal, a_run, a_serve, a_web, an_audit, an_explanation, an_export, an_import, asked_beside, asked_by, asked_named, asked_of_person, bayou_app, faults_of, file, folder_of, folder_rule, input_of, input_seen, main_app, net_app, run_app, standard, task_seen};
 ghost use Rattle.bayou_command.specs.Rows.{TakesNumbers, bare_export, check_words, connect_with, connect_words, export_words, import_with, import_words, key_words, plain_check, plain_connection, plain_import, plain_renewal, plain_service, renew_with, renew_words, serve_with, serve_words, plain_web, web_with, web_words};
 ghost use Rattle.bayou_command.specs.Inner.Stops.{StopsAt};
 
+mod audit;
 mod check;
 mod checking;
 mod connect;
@@ -29,6 +30,7 @@ mod serving;
 mod showing;
 pub mod web;
 
+use audit::{audit_command, auditing_in};
 use check::{check_command, checking_in};
 pub use checking::Checking;
 use clap::builder::ValueParser;
@@ -159,48 +161,6 @@ device (a journal that can't be opened, is another server's or in use by another
 Pages: docs/NET.md (two servers on one machine, their journals, each fault), docs/FORMATS.md (lines in and out), docs/GUARANTEES.md
 (what a session may ask for), docs/TROUBLE.md (reopen, and what to do about each fault), examples/net/ (scripts)."#;
 
-const AUDIT_ABOUT: &str =
-    "Reads entries and dumps, and says whether each session had what it asked for.";
-
-const AUDIT_FILE: &str = "The audit file; where it is -, the standard input";
-
-const AUDIT_FORM: &str =
-    r#"Each line is a JSON array, and an empty line is skipped. The first says how many servers there are; the others follow in any
-order. I is a session (0 to 31), S a server. Below each form stands an example.
-
-  ["servers",N]  ["servers",N,LIMIT]  there are servers 0 to N-1 (N 1 to 16); the limit says nothing here
-      ["servers",2]
-  ["entry",I,PLACE,ASKS,S,"write",SEQ,CLOCK,VECTOR]  server S accepted a Write of session I, which got the name S:SEQ and this
-                         clock; before it the server held what VECTOR counts
-      ["entry",0,1,["ryw"],0,"write",1,1,[0,0]]
-  ["entry",I,PLACE,ASKS,S,"read",KEY,VECTOR]  session I read a key at server S, from the database that VECTOR counts
-      ["entry",0,2,["ryw"],1,"read","room",[0,0]]
-  ["entry",I,PLACE,ASKS,S,"refused"]  server S refused session I
-      ["entry",0,3,["ryw"],1,"refused"]
-  ["held",S,[ORIGIN,SEQ,CLOCK,VECTOR,PROGRAM]]  server S holds the Write ORIGIN:SEQ with this clock, before which its origin held
-                         what VECTOR counts; the lines of a server stand in the order in which it received the Writes
-      ["held",0,[0,1,1,[0,0],{"update":[["put","room",1]]}]]
-
-PLACE  the number of the operation among those that the session tried (1 to 4294967295), which rises in the file
-ASKS   what the session asks for, any of "ryw", "mr", "wfr", "mw"; the same in each of its entries
-VECTOR N counts (0 to 65536): for each server, how many of its Writes are held
-SEQ and CLOCK are 1 to 65536; a KEY and a PROGRAM are as in a script (bayou run --help). At most 65536 entries; any number held.
-
-The verdict is printed first:
-  clean                  each session had what it asked for
-  broken G session I places A B server S wid O:Q  it hadn't: the operations at places A and B of session I break G, since server S
-                         hadn't the Write O:Q, or had it too late
-  judge refused dump S A no server can hold this: the Write at place A (from 0 on) of what server S holds doesn't fit
-  judge refused forged E no such server can have answered this: the entry of number E, from 0 on
-Then, unless it is refused, a line for each session that has an entry: `survey I ryw X mr X wfr X mw X`, X being `ok`, or
-`broken A B S O:Q`, asked for or not.
-
-Nothing is printed before the whole file was read and found good. What is wrong is told on standard error, in one line.
-Exit status: 0 clean; 1 broken; 2 the verdict, the file or the command line is refused; 3 memory, the input or the output failed.
-
-Pages: docs/AUDIT.md (how to write such a file, and what a verdict means), docs/GUARANTEES.md (what a session may ask for),
-docs/FORMATS.md (lines in and out), docs/TROUBLE.md (what to do about each fault), examples/README.md (audit files)."#;
-
 const RUN_FORM: &str =
     r#"Each line is a JSON array, and an empty line is skipped. The first starts the servers; the others follow in any order. I is a
 session (0 to 31), S a server. Below each form stands an example.
@@ -281,6 +241,8 @@ pub enum Task<'a> {
     Run(Source<'a>),
     /// To audit the file that is there.
     Audit(Source<'a>),
+    /// To audit it, and to show what is told by its lines.
+    Explain(Source<'a>),
     /// To run the script that is there over sockets, with the servers' journals in this folder.
     Net { folder: &'a str, script: Source<'a> },
     /// To serve one server of a store.
@@ -347,17 +309,6 @@ fn run_command<'a>(alloc: Global) -> Result<Command<'a>, AllocError>
     Command::new(alloc, "run")
         .about(RUN_ABOUT)
         .after_help(RUN_FORM)
-        .arg(file)
-}
-
-fn audit_command<'a>(alloc: Global) -> Result<Command<'a>, AllocError>
-    ensures app { IfOk result (λ command. app_of command ≡ audit_app) }
-    ensures local { IfOk result (λ command. (fields_of command).has_globals ≡ false) }
-{
-    let file = Arg::new(alloc, "FILE").help(AUDIT_FILE).required(true);
-    Command::new(alloc, "audit")
-        .about(AUDIT_ABOUT)
-        .after_help(AUDIT_FORM)
         .arg(file)
 }
 
@@ -470,7 +421,7 @@ fn task_named<'a>(alloc: Global, name: &str, found: &ArgMatches<'a>) -> Result<T
     ensures { IfOk result (λ task. task_seen task ≡ asked_named name.now (rows_of (found_of found.now))) }
 {
     Ok(match name {
-        "audit" => Task::Audit(source_in(found)),
+        "audit" => auditing_in(found),
         "net" => Task::Net {
             folder: folder_in(found),
             script: source_in(found),
@@ -532,7 +483,7 @@ fn with_tip(alloc: Global, stop: Stop, file: Option<&str>) -> Stop
 }
 
 /// A law: `bayou run`, `bayou run -` and `bayou run FILE` ask for a run, of the standard input or of the file, `bayou audit FILE` and
-/// `bayou audit -` for an audit, and `bayou net --dir D`, with the same words for its input and in any order, for a run over sockets with the
+/// `bayou audit -` for an audit, with `--explain` for one that is explained, and `bayou net --dir D`, with the same words for its input and in any order, for a run over sockets with the
 /// journals in the folder D. Without a folder, or with one that has no name, `bayou net` is refused.
 /// `bayou serve` with the options that it must have asks for a server that lives: with the numbers that it has without their options, and with
 /// each other option as it is given, in any order. Without one of those that it must have, with a number out of its range, with one of them
@@ -542,6 +493,8 @@ pub fn commands_are_named()
     ensures run_dash { AskFor (codes "bayou" ∷ codes "run" ∷ codes "-" ∷ []) (a_run standard) }
     ensures run_file { AskFor (codes "bayou" ∷ codes "run" ∷ codes "a.jsonl" ∷ []) (a_run (file (codes "a.jsonl"))) }
     ensures audit { AskFor (codes "bayou" ∷ codes "audit" ∷ codes "a.jsonl" ∷ []) (an_audit (file (codes "a.jsonl"))) }
+    ensures explained { AskFor (codes "bayou" ∷ codes "audit" ∷ codes "--explain" ∷ codes "a.jsonl" ∷ []) (an_explanation (file (codes "a.jsonl"))) }
+    ensures explained_turned { AskFor (codes "bayou" ∷ codes "audit" ∷ codes "-" ∷ codes "--explain" ∷ []) (an_explanation standard) }
     ensures audit_dash { AskFor (codes "bayou" ∷ codes "audit" ∷ codes "-" ∷ []) (an_audit standard) }
     ensures net { AskFor (codes "bayou" ∷ codes "net" ∷ codes "--dir" ∷ codes "d" ∷ []) (a_net (codes "d") standard) }
     ensures net_joined { AskFor (codes "bayou" ∷ codes "net" ∷ codes "--dir=d" ∷ []) (a_net (codes "d") standard) }
