@@ -1,0 +1,53 @@
+//! What is told of a broken history, from outside of the program.
+use crate::explained::{Explained, explain};
+use crate::located::locate;
+use crate::telling::explained_text;
+use bayou_judge::{lend_dumps, survey};
+use bayou_script::{AuditDraft, AuditFile, TextReader};
+use std::alloc::Global;
+use std::process::Abort;
+
+const BROKEN: &str = concat!(
+    "[\"servers\",2]\n",
+    "\n",
+    "[\"entry\",0,1,[\"mw\"],0,\"write\",1,1,[0,0]]\n",
+    "[\"entry\",0,2,[\"mw\"],1,\"write\",1,1,[0,0]]\n",
+    "[\"held\",0,[0,1,1,[0,0],{\"update\":[[\"put\",\"door\",\"closed\"]]}]]\n",
+    "[\"held\",1,[1,1,1,[0,0],{\"update\":[[\"put\",\"alarm\",\"on\"]]}]]\n"
+);
+
+const TOLD: &str = concat!(
+    "session 0, places 1 and 2: Monotonic Writes\n",
+    "  place 1: line 3  [\"entry\",0,1,[\"mw\"],0,\"write\",1,1,[0,0]]\n",
+    "  place 2: line 4  [\"entry\",0,2,[\"mw\"],1,\"write\",1,1,[0,0]]\n",
+    "  0:1 at server 0: line 5  [\"held\",0,[0,1,1,[0,0],{\"update\":[[\"put\",\"door\",\"closed\"]]}]]\n",
+    "  0:1 at server 1: no line\n",
+    "  the Write at place 1 is 0:1; server 1 has the Write of place 2 without that one before it\n"
+);
+
+fn read(rt: &impl Abort, alloc: Global, text: &str) -> AuditFile {
+    let mut reader = TextReader::<AuditDraft>::new(alloc);
+    let Ok(()) = reader.feed(alloc, text.as_bytes()) else {
+        panic!(rt; "no audit file");
+    };
+    match reader.finish(alloc) {
+        Ok(file) => file,
+        Err(_) => panic!(rt; "no audit file"),
+    }
+}
+
+#[test]
+fn a_breach_is_told_by_its_lines(rt: HostRuntime) {
+    let alloc = rt.alloc();
+    let file = read(&rt, alloc, BROKEN);
+    let dumps = lend_dumps(&file.dumps);
+    let surveyed = survey(alloc, file.count, &file.entries, &dumps).expect(&rt, "no memory");
+    let Ok(surveyed) = surveyed else {
+        panic!(rt; "no evidence");
+    };
+    let lines = locate(alloc, BROKEN.as_bytes()).expect(&rt, "no memory");
+    let list: Vec<Explained<'_>> = explain(alloc, &lines, &surveyed).expect(&rt, "no memory");
+    assert!(rt; list.len() == 1);
+    let told = explained_text(alloc, &list[0]).expect(&rt, "no memory");
+    assert!(rt; told.as_str() == TOLD);
+}
