@@ -1,7 +1,7 @@
 -- Which lines tell what.
-use Rattle.std.specs.Prelude.{◌≡◌, ℕ, ⊥, List, Some, slice_get}
+use Rattle.std.specs.Prelude.{◌≡◌, ℕ, ⊥, Bool, true, false, List, Some, slice_get}
 use Rattle.bayou_base.specs.declared.wid.Wid.{Wid}
-use Rattle.bayou_text.specs.Said.{Said, entry, held}
+use Rattle.bayou_text.specs.Said.{Said, audit_said, entry, held}
 use Rattle.bayou_explain.specs.declared.located.Located.{Located}
 
 -- the line stands at its place among these
@@ -17,3 +17,11 @@ IsOperationAt session place other = ⊥
 abbrev pub IsHeldBy : ℕ → Wid → Said → Type 0
 IsHeldBy server wid (held place write counts) = (place ≡ server) × (write.wid ≡ wid)
 IsHeldBy server wid other = ⊥
+
+abbrev pub is_entry : Said → Bool
+is_entry (entry told counts) = true
+is_entry other = false
+
+-- whether the line tells an entry
+abbrev pub tells_entry : Located → Bool
+tells_entry line = is_entry (audit_said line.told)

@@ -1,8 +1,10 @@
 -- What is told of a breach: this project's own lines.
-use Rattle.std.specs.Prelude.{ℕ, List, ◌++◌, codes, decimal}
+use Rattle.std.specs.Prelude.{ℕ, List, ◌++◌, Option, None, Some, codes, decimal}
 use Rattle.bayou_judge.specs.declared.breach.Breach.{Breach}
 use Rattle.bayou_judge.specs.declared.breach.Guarantee.{Guarantee}
 use Rattle.bayou_judge.specs.declared.breach.Guarantee.TheVariants.{ReadYourWrites, MonotonicReads, WritesFollowReads, MonotonicWrites}
+use Rattle.bayou_explain.specs.declared.refused.Cause.{Cause}
+use Rattle.bayou_explain.specs.declared.refused.Cause.TheVariants.{Place, Asks, Origin, Again, Lost, Differs, Database}
 
 abbrev pub guarantee_text : Guarantee → List ℕ
 guarantee_text ReadYourWrites = codes "Read Your Writes"
@@ -53,3 +55,18 @@ later_text MonotonicWrites breach = write_text breach
 -- what is wrong with the two operations
 abbrev pub sentence_text : Breach → List ℕ
 sentence_text breach = earlier_text breach ++ (codes "; " ++ (later_text breach.guarantee breach ++ codes "\n"))
+
+-- the line that an entry begins with that can't be true
+abbrev pub entry_text : ℕ → List ℕ
+entry_text number = codes "entry " ++ (decimal number ++ codes " can't be true\n")
+
+-- which condition an entry fails
+abbrev pub reason_text : Option Cause → List ℕ
+reason_text (Some (Place shown)) = codes "  its place isn't above the one of that earlier entry of its session\n"
+reason_text (Some (Asks shown)) = codes "  its session asked for something else in that earlier entry\n"
+reason_text (Some Origin) = codes "  it names a Write that another server accepted\n"
+reason_text (Some (Again shown)) = codes "  that earlier entry names the same Write\n"
+reason_text (Some Lost) = codes "  its server's dump hasn't the Write that was acknowledged: it was lost, or the dump is older\n"
+reason_text (Some (Differs shown)) = codes "  its server's dump has that Write with another clock or another past\n"
+reason_text (Some Database) = codes "  its server never had the database that the read was served from\n"
+reason_text None = codes "  no line shows which condition it fails\n"

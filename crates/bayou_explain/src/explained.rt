@@ -1,6 +1,6 @@
 //! Breaches, and the lines that show them.
 ghost use Rattle.std.specs.Prelude.{◌≡◌, ◌++◌, ℕ, All, IfOk, List, OnOk, map};
-ghost use Rattle.bayou_explain.specs.Explained.{IsFound, IsShown, breach_list, breaches_of, breaches_told};
+ghost use Rattle.bayou_explain.specs.Explained.{IsFound, IsOfLine, IsShown, breach_list, breaches_of, breaches_told};
 ghost use Rattle.bayou_explain.specs.Located.{IsHeldBy, IsOperationAt};
 
 use crate::located::Located;
@@ -30,31 +30,35 @@ pub struct Explained<'a> {
     pub there: Option<Shown<'a>>,
 }
 
+/// The line as it is shown.
+pub(crate) fn shown_as<'a>(line: &Located<'a>) -> Shown<'a>
+    ensures { IsOfLine line.now result }
+{
+    Shown {
+        at: line.at,
+        bytes: line.bytes,
+    }
+}
+
 // The line of the operation at this place of the session.
 fn operation<'a>(lines: &[Located<'a>], session: SessionId, place: u32) -> Option<Shown<'a>>
     ensures { IsFound lines.now (IsOperationAt session.index place) result }
 {
     for line in lines {
         if line.is_operation(session, place) {
-            return Some(Shown {
-                at: line.at,
-                bytes: line.bytes,
-            });
+            return Some(shown_as(line));
         }
     }
     None
 }
 
-// The line of the Write of this name, as the server holds it.
-fn held<'a>(lines: &[Located<'a>], server: ServerId, wid: Wid) -> Option<Shown<'a>>
+/// The line of the Write of this name, as the server holds it.
+pub(crate) fn held<'a>(lines: &[Located<'a>], server: ServerId, wid: Wid) -> Option<Shown<'a>>
     ensures { IsFound lines.now (IsHeldBy server.index wid) result }
 {
     for line in lines {
         if line.is_held(server, wid) {
-            return Some(Shown {
-                at: line.at,
-                bytes: line.bytes,
-            });
+            return Some(shown_as(line));
         }
     }
     None

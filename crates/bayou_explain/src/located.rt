@@ -3,7 +3,7 @@ ghost use Rattle.std.specs.Prelude.{◌≡◌, ◌↔◌, ℕ, All, IfOk, IfSome
 ghost use Rattle.bayou_script.specs.Order.{lines_of};
 ghost use Rattle.bayou_text.specs.Said.{audit_said};
 ghost use Rattle.bayou_text.specs.Table.{Spells};
-ghost use Rattle.bayou_explain.specs.Located.{IsHeldBy, IsOperationAt, StandsIn};
+ghost use Rattle.bayou_explain.specs.Located.{IsHeldBy, IsOperationAt, StandsIn, tells_entry};
 
 use bayou_base::{ServerId, SessionId, Wid};
 use bayou_text::{AuditLine, Line, LineFault, read_line};
@@ -20,6 +20,13 @@ pub struct Located<'a> {
 }
 
 impl<'a> Located<'a> {
+    /// Whether it tells an entry.
+    pub fn is_entry(&self) -> bool
+        ensures { result ≡ tells_entry self.now }
+    {
+        matches!(&self.told, AuditLine::Entry { .. })
+    }
+
     /// Whether it tells the operation at this place of the session.
     pub fn is_operation(&self, session: SessionId, place: u32) -> bool
         ensures { IsTrue result ↔ IsOperationAt session.index place (audit_said self.now.told) }

@@ -1,7 +1,8 @@
 //! What a breach comes to, in words.
 ghost use Rattle.std.specs.Prelude.{◌≡◌, IfOk, string_bytes};
-ghost use Rattle.bayou_explain.specs.Sentence.{earlier_text, guarantee_text, had_text, later_text, operation_text, sentence_text, title_text};
+ghost use Rattle.bayou_explain.specs.Sentence.{earlier_text, guarantee_text, had_text, later_text, operation_text, reason_text, sentence_text, title_text};
 
+use crate::refused::Cause;
 use bayou_judge::{Breach, Guarantee};
 use std::alloc::{AllocError, Global};
 
@@ -83,4 +84,22 @@ pub(crate) fn sentence(alloc: Global, breach: &Breach) -> Result<String, AllocEr
     let earlier = earlier(alloc, breach)?;
     let later = later(alloc, breach)?;
     format!(in alloc; "{earlier}; {later}\n")
+}
+
+/// Which condition an entry fails, in a line.
+pub(crate) fn reason(cause: Option<Cause<'_>>) -> &'static str
+    ensures { result.now ≡ reason_text cause }
+{
+    match cause {
+        Some(Cause::Place(_)) => "  its place isn't above the one of that earlier entry of its session\n",
+        Some(Cause::Asks(_)) => "  its session asked for something else in that earlier entry\n",
+        Some(Cause::Origin) => "  it names a Write that another server accepted\n",
+        Some(Cause::Again(_)) => "  that earlier entry names the same Write\n",
+        Some(Cause::Lost) => {
+            "  its server's dump hasn't the Write that was acknowledged: it was lost, or the dump is older\n"
+        }
+        Some(Cause::Differs(_)) => "  its server's dump has that Write with another clock or another past\n",
+        Some(Cause::Database) => "  its server never had the database that the read was served from\n",
+        None => "  no line shows which condition it fails\n",
+    }
 }

@@ -1,9 +1,10 @@
 //! Breaches as they are told to people.
 ghost use Rattle.std.specs.Prelude.{◌≡◌, ◌++◌, ℕ, IfOk, List, string_bytes};
-ghost use Rattle.bayou_explain.specs.Sentence.{sentence_text, title_text};
+ghost use Rattle.bayou_explain.specs.Sentence.{entry_text, reason_text, sentence_text, title_text};
 
 use crate::explained::{Explained, Shown};
-use crate::sentence::{sentence, title};
+use crate::refused::{Cause, Forged};
+use crate::sentence::{reason, sentence, title};
 use std::alloc::{AllocError, Global};
 use std::str;
 
@@ -70,4 +71,35 @@ pub fn explained_text(alloc: Global, explained: &Explained<'_>) -> Result<String
     let lines = lines_text(alloc, explained)?;
     let sentence = sentence(alloc, &explained.breach)?;
     format!(in alloc; "{title}{lines}{sentence}")
+}
+
+// The line that the cause names.
+fn line_of<'a>(cause: Option<Cause<'a>>) -> Option<Shown<'a>> {
+    match cause? {
+        Cause::Place(shown) | Cause::Asks(shown) | Cause::Again(shown) | Cause::Differs(shown) => {
+            Some(shown)
+        }
+        Cause::Origin | Cause::Lost | Cause::Database => None,
+    }
+}
+
+// The lines that show which condition an entry fails.
+fn forged_lines(alloc: Global, forged: &Forged<'_>) -> Result<String, AllocError> {
+    let entry = line_text(alloc, "the entry", Some(forged.entry))?;
+    match line_of(forged.cause) {
+        Some(shown) => {
+            let other = line_text(alloc, "against", Some(shown))?;
+            format!(in alloc; "{entry}{other}")
+        }
+        None => Ok(entry),
+    }
+}
+
+/// The entry of this number, which can't be true, as it is told: its line, the one that it doesn't go with, and which condition it fails.
+pub fn forged_text(alloc: Global, number: usize, forged: &Forged<'_>) -> Result<String, AllocError>
+    ensures { IfOk result (λ text. (lines : List ℕ) × (string_bytes text ≡ entry_text number ++ (lines ++ reason_text forged.now.cause))) }
+{
+    let lines = forged_lines(alloc, forged)?;
+    let reason = reason(forged.cause);
+    format!(in alloc; "entry {number} can't be true\n{lines}{reason}")
 }
