@@ -1,6 +1,6 @@
 -- What a report says of a text: the least line with a fault is the one for which the text is refused, and there is none where it is taken.
 use Rattle.std.specs.Prelude.{ℕ, ◌⊎◌, List, Option, MatchOption, option_map}
-use Rattle.bayou_check.specs.declared.check.Report.{Report}
+use Rattle.bayou_check.specs.declared.report.Report.{Report}
 use Rattle.bayou_check.specs.declared.kind.Kind.{Kind}
 use Rattle.bayou_check.specs.declared.kind.Kind.TheVariants.{Audit, Script}
 use Rattle.bayou_check.specs.declared.least.Least.{Least}

@@ -8,7 +8,8 @@ use crate::cut::{Lines, Numbered, count_lines};
 use crate::kind::Kind;
 use crate::least::{Least, least_fault};
 use crate::look::look_line;
-use crate::standing::{Counts, Standing};
+use crate::report::Report;
+use crate::standing::Standing;
 use crate::telling::{Faulty, tell};
 use crate::told::{Looked, Mistake, Told};
 use crate::within::headed;
@@ -22,25 +23,6 @@ use std::str;
 
 /// How many lines with a fault are told of, behind the first one. More are counted.
 pub const MAX_TOLD: usize = 1_000;
-
-/// What a text is, and what is wrong with it.
-#[derive(Drop)]
-pub struct Report {
-    pub kind: Kind,
-    /// The least line with a fault, for which the text is refused.
-    pub least: Option<Told>,
-    /// Lines with a fault behind it, as if each line with a fault weren't there.
-    pub others: Vec<Told>,
-    /// How many lines have a fault.
-    pub faults: u64,
-    /// How many lines there are.
-    pub lines: u64,
-    pub counts: Counts,
-    /// The least line for which a script is refused over sockets.
-    pub network: Option<Least>,
-    pub ghost none_counted: { (faults ≡ 0) ↔ (least ≡ None) },
-    pub ghost others_counted: { vec_len others ≤ faults },
-}
 
 // The word that the line begins with, if it is JSON that begins with one: whether it is one of an audit file alone, or one of a script alone.
 fn kind_of_line(alloc: Global, bytes: &[u8]) -> Result<Option<Kind>, AllocError> {

@@ -2,8 +2,8 @@
 ghost use Rattle.std.specs.Prelude.{◌≡◌, IfOk, string_bytes};
 ghost use Rattle.bayou_check.specs.Shown.{BeginsWith, HasWithin, head_text, outcome_text};
 
-use crate::check::Report;
 use crate::kind::Kind;
+use crate::report::Report;
 use crate::text::plain;
 use crate::told::{Step, Told};
 use std::alloc::{AllocError, Global};

@@ -1,6 +1,6 @@
 //! Breaches, and the lines that show them.
 ghost use Rattle.std.specs.Prelude.{◌≡◌, ◌++◌, ℕ, All, IfOk, List, OnOk, map};
-ghost use Rattle.bayou_explain.specs.Explained.{IsFound, IsOfLine, IsShown, breach_list, breaches_of, breaches_told};
+ghost use Rattle.bayou_explain.specs.Explained.{IsFound, IsOfLine, IsShown, breach_list, breaches_in, breaches_of, breaches_told};
 ghost use Rattle.bayou_explain.specs.Located.{IsHeldBy, IsOperationAt};
 
 use crate::located::Located;
@@ -93,6 +93,21 @@ fn add<'a>(
     Ok(())
 }
 
+// Adds the breaches of a session.
+fn add_all<'a>(
+    lines: &[Located<'a>],
+    list: &mut Vec<Explained<'a>>,
+    surveyed: &Surveyed,
+) -> Result<(), AllocError>
+    ensures breaches { OnOk result (breaches_told list.new.items ≡ breaches_told list.old.items ++ breaches_in surveyed.now) }
+    ensures lines { All (IsShown lines.now) list.old.items → OnOk result (All (IsShown lines.now) list.new.items) }
+{
+    add(lines, list, surveyed.ryw)?;
+    add(lines, list, surveyed.mr)?;
+    add(lines, list, surveyed.wfr)?;
+    add(lines, list, surveyed.mw)
+}
+
 /// The breaches of a survey, in their order, each with the lines that show it.
 pub fn explain<'a>(
     alloc: Global,
@@ -104,9 +119,7 @@ pub fn explain<'a>(
 {
     let mut list = Vec::new(alloc);
     for surveyed in survey {
-        for found in [surveyed.ryw, surveyed.mr, surveyed.wfr, surveyed.mw] {
-            add(lines, &mut list, found)?;
-        }
+        add_all(lines, &mut list, surveyed)?;
     }
     Ok(list)
 }
