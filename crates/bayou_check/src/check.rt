@@ -58,12 +58,12 @@ pub fn kind_of(alloc: Global, text: &[u8]) -> Result<Kind, AllocError>
 {
     a_script_is_read_in_one_way();
     an_audit_file_is_read_in_one_way();
-    if least_fault::<Draft>(alloc, text)?.is_none() {
+    let Some(_) = least_fault::<Draft>(alloc, text)? else {
         return Ok(Kind::Script);
-    }
-    if least_fault::<AuditDraft>(alloc, text)?.is_none() {
+    };
+    let Some(_) = least_fault::<AuditDraft>(alloc, text)? else {
         return Ok(Kind::Audit);
-    }
+    };
     kind_by_words(alloc, text)
 }
 

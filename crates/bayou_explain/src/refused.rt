@@ -1,10 +1,11 @@
 //! Which condition an entry fails that can't be true.
-ghost use Rattle.std.specs.Prelude.{◌≡◌, ◌↔◌, ◌≤◌, ℕ, IfSome, IsTrue, MatchOption, length};
+ghost use Rattle.std.specs.Prelude.{◌≡◌, ◌↔◌, ◌≤◌, ℕ, IsTrue, MatchOption, length};
 ghost use Rattle.std.specs.List.{filter};
 ghost use Rattle.bayou_base.specs.declared.entry.What.TheVariants.{Write};
 ghost use Rattle.bayou_text.specs.Said.{audit_said};
 ghost use Rattle.bayou_explain.specs.Explained.{IsFound};
-ghost use Rattle.bayou_explain.specs.Refused.{AsksOther, IsCause, IsCauseOf, IsEntryNumber, IsForged, IsHeldOtherwise, IsNotBelow, NamesWrite, tells_entry};
+ghost use Rattle.bayou_explain.specs.Located.{tells_entry};
+ghost use Rattle.bayou_explain.specs.Refused.{AsksOther, IsBlameless, IsCause, IsCauseOf, IsEntryNumber, IsForged, IsHeldOtherwise, IsNotBelow, IsSound, NamesWrite};
 
 use crate::explained::{Shown, held, shown_as};
 use crate::located::Located;
@@ -145,7 +146,7 @@ fn differing<'a>(
     None
 }
 
-// Which condition an entry of this server fails that names this Write, behind these lines.
+// Which condition an entry of this server fails that names this Write, after these lines.
 fn write_cause<'a>(
     before: &[Located<'a>],
     lines: &[Located<'a>],
@@ -154,7 +155,7 @@ fn write_cause<'a>(
     stamp: Stamp,
     deps: &Vector,
 ) -> Option<Cause<'a>>
-    ensures { IfSome result (IsCauseOf before.now lines.now server (Write wid stamp deps.now)) }
+    ensures { MatchOption result (IsSound before.now lines.now server (Write wid stamp deps.now)) (IsCauseOf before.now lines.now server (Write wid stamp deps.now)) }
 {
     if wid.origin.index != server.index {
         return Some(Cause::Origin);
@@ -162,20 +163,20 @@ fn write_cause<'a>(
     if let Some(shown) = named(before, wid) {
         return Some(Cause::Again(shown));
     }
-    if held(lines, server, wid).is_none() {
+    let Some(_) = held(lines, server, wid) else {
         return Some(Cause::Lost);
-    }
+    };
     let shown = differing(lines, server, wid, stamp, deps)?;
     Some(Cause::Differs(shown))
 }
 
-// Which condition the entry fails, behind these lines.
+// Which condition the entry fails, after these lines.
 fn cause_of<'a>(
     before: &[Located<'a>],
     lines: &[Located<'a>],
     entry: &Entry,
 ) -> Option<Cause<'a>>
-    ensures { IfSome result (IsCause before.now lines.now entry.now) }
+    ensures { MatchOption result (IsBlameless before.now lines.now entry.now) (IsCause before.now lines.now entry.now) }
 {
     if let Some(shown) = not_below(before, entry.session, entry.place) {
         return Some(Cause::Place(shown));
