@@ -1,18 +1,20 @@
 //! All the faults of a text.
-ghost use Rattle.std.specs.Prelude.{◌≡◌, IfOk, MatchOption, None, Some};
+ghost use Rattle.std.specs.Prelude.{◌≡◌, ◌↔◌, ◌≤◌, IfOk, MatchOption, None, Some, vec_len};
 ghost use Rattle.bayou_script.specs.Order.{lines_of};
 ghost use Rattle.bayou_check.specs.declared.kind.Kind.TheVariants.{Audit, Script};
-ghost use Rattle.bayou_check.specs.Checked.{ChecksAudit, ChecksNetwork, ChecksScript, least_told};
+ghost use Rattle.bayou_check.specs.Checked.{ChecksAudit, ChecksNetwork, ChecksScript, IsTaken, IsTakenAs, least_told};
 
 use crate::cut::{Lines, Numbered, count_lines};
 use crate::kind::Kind;
 use crate::least::{Least, least_fault};
 use crate::look::look_line;
-use crate::standing::{Counts, Standing};
+use crate::report::Report;
+use crate::standing::Standing;
 use crate::telling::{Faulty, tell};
 use crate::told::{Looked, Mistake, Told};
 use crate::within::headed;
 use bayou_base::{SERVERS, SESSIONS, SessionId};
+use bayou_script::laws::{a_script_is_read_in_one_way, an_audit_file_is_read_in_one_way};
 use bayou_script::{AuditDraft, Draft, NetworkDraft, ScriptFault};
 use bayou_text::{Command, Line, LineFault, read_line};
 use serde_json::Value as Json;
@@ -21,23 +23,6 @@ use std::str;
 
 /// How many lines with a fault are told of, behind the first one. More are counted.
 pub const MAX_TOLD: usize = 1_000;
-
-/// What a text is, and what is wrong with it.
-#[derive(Drop)]
-pub struct Report {
-    pub kind: Kind,
-    /// The least line with a fault, for which the text is refused.
-    pub least: Option<Told>,
-    /// Lines with a fault behind it, as if each line with a fault weren't there.
-    pub others: Vec<Told>,
-    /// How many lines have a fault.
-    pub faults: u64,
-    /// How many lines there are.
-    pub lines: u64,
-    pub counts: Counts,
-    /// The least line for which a script is refused over sockets.
-    pub network: Option<Least>,
-}
 
 // The word that the line begins with, if it is JSON that begins with one: whether it is one of an audit file alone, or one of a script alone.
 fn kind_of_line(alloc: Global, bytes: &[u8]) -> Result<Option<Kind>, AllocError> {
@@ -55,8 +40,8 @@ fn kind_of_line(alloc: Global, bytes: &[u8]) -> Result<Option<Kind>, AllocError>
     })
 }
 
-/// Which kind of text it is: that of its first line whose word only one kind has. A text without one is a script.
-pub fn kind_of(alloc: Global, text: &[u8]) -> Result<Kind, AllocError> {
+// That of the first line whose word only one kind has. A text without one is a script.
+fn kind_by_words(alloc: Global, text: &[u8]) -> Result<Kind, AllocError> {
     let mut lines = Lines::of(text);
     while let Some(line) = lines.take() {
         if let Some(kind) = kind_of_line(alloc, line.bytes)? {
@@ -64,6 +49,22 @@ pub fn kind_of(alloc: Global, text: &[u8]) -> Result<Kind, AllocError> {
         }
     }
     Ok(Kind::Script)
+}
+
+/// Which kind of text it is: one that it is taken as, if it is taken; else that of its first line whose word only one kind has. A text without one
+/// is a script.
+pub fn kind_of(alloc: Global, text: &[u8]) -> Result<Kind, AllocError>
+    ensures { IfOk result (λ kind. IsTaken (lines_of text.now) → IsTakenAs kind (lines_of text.now)) }
+{
+    a_script_is_read_in_one_way();
+    an_audit_file_is_read_in_one_way();
+    let Some(_) = least_fault::<Draft>(alloc, text)? else {
+        return Ok(Kind::Script);
+    };
+    let Some(_) = least_fault::<AuditDraft>(alloc, text)? else {
+        return Ok(Kind::Audit);
+    };
+    kind_by_words(alloc, text)
 }
 
 // What the bytes are as JSON, if they are.
@@ -217,7 +218,9 @@ fn lines_behind(
     kind: Kind,
     standing: &mut Standing,
     lines: &mut Lines<'_>,
-) -> Result<(Vec<Told>, u64), AllocError> {
+) -> Result<(Vec<Told>, u64), AllocError>
+    ensures { IfOk result (λ told. vec_len told.0 ≤ told.1) }
+{
     let mut others = Vec::new(alloc);
     let mut faults: u64 = 0;
     while let Some(line) = lines.take() {
@@ -355,11 +358,14 @@ pub fn check_audit(alloc: Global, text: &[u8]) -> Result<Report, AllocError>
     report_of(alloc, Kind::Audit, text, least, None)
 }
 
-/// What is told of a text, as the kind that it is.
+/// What is told of a text, as the kind that it is. Nothing is wrong with a text that is taken as either kind, and with no other.
 pub fn check_text(alloc: Global, text: &[u8]) -> Result<Report, AllocError>
+    ensures nothing { IfOk result (λ report. (report.least ≡ None) ↔ IsTaken (lines_of text.now)) }
     ensures script { IfOk result (λ report. report.kind ≡ Script → ChecksScript (lines_of text.now) (least_told report)) }
     ensures audit { IfOk result (λ report. report.kind ≡ Audit → ChecksAudit (lines_of text.now) (least_told report)) }
 {
+    a_script_is_read_in_one_way();
+    an_audit_file_is_read_in_one_way();
     match kind_of(alloc, text)? {
         Kind::Script => check_script(alloc, text),
         Kind::Audit => check_audit(alloc, text),

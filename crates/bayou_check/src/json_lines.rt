@@ -1,5 +1,5 @@
 //! A report as lines of JSON, for programs.
-use crate::check::Report;
+use crate::report::Report;
 use crate::told::{Step, Told};
 use serde_json::{Value as Json, json};
 use std::alloc::{AllocError, Global};

@@ -1,4 +1,7 @@
 //! Which kind of text it is.
+ghost use Rattle.std.specs.Prelude.{◌≡◌};
+ghost use Rattle.bayou_check.specs.Shown.{command_text};
+
 use crate::forms::{COMMANDS, TOLD};
 use std::fmt;
 
@@ -30,7 +33,9 @@ impl Kind {
     }
 
     /// The command that takes it.
-    pub fn command(self) -> &'static str {
+    pub fn command(self) -> &'static str
+        ensures { result.now ≡ command_text self }
+    {
         match self {
             Kind::Script => "run",
             Kind::Audit => "audit",

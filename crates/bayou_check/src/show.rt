@@ -1,6 +1,9 @@
 //! A report as text, for people.
-use crate::check::Report;
+ghost use Rattle.std.specs.Prelude.{◌≡◌, IfOk, string_bytes};
+ghost use Rattle.bayou_check.specs.Shown.{BeginsWith, HasWithin, head_text, outcome_text};
+
 use crate::kind::Kind;
+use crate::report::Report;
 use crate::text::plain;
 use crate::told::{Step, Told};
 use std::alloc::{AllocError, Global};
@@ -63,12 +66,28 @@ fn push_line(alloc: Global, text: &mut String, told: &Told) -> Result<(), AllocE
     write!(text, "  {number} | {line}\n  {margin} | {blanks}{marks}\n")
 }
 
+// How the line with a fault is called where a text is refused for it.
+fn head(alloc: Global, number: u64) -> Result<String, AllocError>
+    ensures { IfOk result (λ text. string_bytes text ≡ head_text number) }
+{
+    format!(in alloc; "bayou: line {number}: ")
+}
+
 /// What is told of a line with a fault, in the file of this name.
-pub fn told_text(alloc: Global, file: &str, told: &Told) -> Result<String, AllocError> {
+pub fn told_text(alloc: Global, file: &str, told: &Told) -> Result<String, AllocError>
+    ensures { IfOk result (λ text. BeginsWith (head_text told.now.line) (string_bytes text)) }
+{
+    let head = head(alloc, told.line)?;
+    let more = more_text(alloc, file, told)?;
+    format!(in alloc; "{head}{more}")
+}
+
+// What is told behind its number.
+fn more_text(alloc: Global, file: &str, told: &Told) -> Result<String, AllocError> {
     let file = plain(alloc, file)?;
     let place = place_text(alloc, told.path.as_slice())?;
     let (line, fault, column) = (told.line, told.fault, told.column);
-    let mut text = format!(in alloc; "bayou: line {line}: {fault}\n  {file}:{line}:{column}")?;
+    let mut text = format!(in alloc; "{fault}\n  {file}:{line}:{column}")?;
     if !told.path.is_empty() {
         write!(text, "  {place}")?;
     }
@@ -122,29 +141,55 @@ fn push_network(text: &mut String, report: &Report) -> Result<(), AllocError> {
     )
 }
 
-/// The last lines of a report on the file of this name: how many lines have a fault, or what the lines say where none has.
-pub fn summary_text(alloc: Global, file: &str, report: &Report) -> Result<String, AllocError> {
+// What the lines say, or how many of them have a fault.
+fn before_outcome(alloc: Global, file: &str, report: &Report) -> Result<String, AllocError> {
     let file = plain(alloc, file)?;
     let kind = report.kind;
-    let command = kind.command();
-    let Some(told) = &report.least else {
+    if report.least.is_none() {
         let counts = counts_text(alloc, report)?;
-        let mut text = format!(in alloc;
-            "{file}: {kind} of {counts}; nothing is wrong: bayou {command} {file}\n"
-        )?;
-        push_network(&mut text, report)?;
-        return Ok(text);
-    };
+        return format!(in alloc; "{file}: {kind} of {counts}");
+    }
     let faults = number_of(report.faults, "fault", "faults");
     let lines = number_of(report.lines, "line", "lines");
-    let number = told.line;
-    let mut text = format!(in alloc;
-        "{file}: {kind} with {faults} in {lines}; bayou {command} refuses line {number}\n"
-    )?;
-    let shown = report.others.len() as u64;
-    if shown.saturating_add(1) < report.faults {
-        let first = shown.saturating_add(1);
-        write!(text, "the first {first} faults are shown\n")?;
+    format!(in alloc; "{file}: {kind} with {faults} in {lines}")
+}
+
+// That nothing is wrong, or which line is refused.
+fn outcome(alloc: Global, report: &Report) -> Result<String, AllocError>
+    ensures { IfOk result (λ text. string_bytes text ≡ outcome_text report.now.kind report.now.least) }
+{
+    let command = report.kind.command();
+    match &report.least {
+        None => format!(in alloc; "; nothing is wrong: bayou {command}"),
+        Some(told) => {
+            let number = told.line;
+            format!(in alloc; "; bayou {command} refuses line {number}")
+        }
     }
-    Ok(text)
+}
+
+// The end of that line, and what is told below it.
+fn behind_outcome(alloc: Global, file: &str, report: &Report) -> Result<String, AllocError> {
+    if report.least.is_none() {
+        let file = plain(alloc, file)?;
+        let mut text = format!(in alloc; " {file}\n")?;
+        push_network(&mut text, report)?;
+        return Ok(text);
+    }
+    let shown = report.others.len() as u64;
+    let first = shown.saturating_add(1);
+    if first < report.faults {
+        return format!(in alloc; "\nthe first {first} faults are shown\n");
+    }
+    String::from_str(alloc, "\n")
+}
+
+/// The last lines of a report on the file of this name: how many lines have a fault, or what the lines say where none has.
+pub fn summary_text(alloc: Global, file: &str, report: &Report) -> Result<String, AllocError>
+    ensures { IfOk result (λ text. HasWithin (outcome_text report.now.kind report.now.least) (string_bytes text)) }
+{
+    let before = before_outcome(alloc, file, report)?;
+    let outcome = outcome(alloc, report)?;
+    let behind = behind_outcome(alloc, file, report)?;
+    format!(in alloc; "{before}{outcome}{behind}")
 }

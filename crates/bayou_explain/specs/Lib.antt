@@ -1,0 +1,4 @@
+pub mod Explained
+pub mod Located
+pub mod Refused
+pub mod Sentence

@@ -1,0 +1,125 @@
+//! Breaches, and the lines that show them.
+ghost use Rattle.std.specs.Prelude.{◌≡◌, ◌++◌, ℕ, All, IfOk, List, OnOk, map};
+ghost use Rattle.bayou_explain.specs.Explained.{IsFound, IsOfLine, IsShown, breach_list, breaches_in, breaches_of, breaches_told};
+ghost use Rattle.bayou_explain.specs.Located.{IsHeldBy, IsOperationAt};
+
+use crate::located::Located;
+use bayou_base::{ServerId, SessionId, Wid};
+use bayou_judge::{Breach, Surveyed};
+use std::alloc::{AllocError, Global};
+
+/// A line of a text.
+#[derive(Clone, Copy, Debug)]
+pub struct Shown<'a> {
+    /// Its place among the lines, from 0 on.
+    pub at: usize,
+    pub bytes: &'a [u8],
+}
+
+/// A breach, and the lines that show it; `None` where no line does.
+#[derive(Clone, Copy, Debug)]
+pub struct Explained<'a> {
+    pub breach: Breach,
+    /// The earlier operation.
+    pub first: Option<Shown<'a>>,
+    /// The later one.
+    pub second: Option<Shown<'a>>,
+    /// The Write that is missing, as its own server holds it.
+    pub write: Option<Shown<'a>>,
+    /// The same, as the server holds it at which it was missing.
+    pub there: Option<Shown<'a>>,
+}
+
+/// The line as it is shown.
+pub(crate) fn shown_as<'a>(line: &Located<'a>) -> Shown<'a>
+    ensures { IsOfLine line.now result }
+{
+    Shown {
+        at: line.at,
+        bytes: line.bytes,
+    }
+}
+
+// The line of the operation at this place of the session.
+fn operation<'a>(lines: &[Located<'a>], session: SessionId, place: u32) -> Option<Shown<'a>>
+    ensures { IsFound lines.now (IsOperationAt session.index place) result }
+{
+    for line in lines {
+        if line.is_operation(session, place) {
+            return Some(shown_as(line));
+        }
+    }
+    None
+}
+
+/// The line of the Write of this name, as the server holds it.
+pub(crate) fn held<'a>(lines: &[Located<'a>], server: ServerId, wid: Wid) -> Option<Shown<'a>>
+    ensures { IsFound lines.now (IsHeldBy server.index wid) result }
+{
+    for line in lines {
+        if line.is_held(server, wid) {
+            return Some(shown_as(line));
+        }
+    }
+    None
+}
+
+/// The breach with the lines that show it.
+pub fn explain_breach<'a>(lines: &[Located<'a>], breach: Breach) -> Explained<'a>
+    ensures breach { result.breach ≡ breach }
+    ensures lines { IsShown lines.now result }
+{
+    Explained {
+        breach,
+        first: operation(lines, breach.session, breach.first),
+        second: operation(lines, breach.session, breach.second),
+        write: held(lines, breach.wid.origin, breach.wid),
+        there: held(lines, breach.server, breach.wid),
+    }
+}
+
+// Adds the breach, if there is one.
+fn add<'a>(
+    lines: &[Located<'a>],
+    list: &mut Vec<Explained<'a>>,
+    found: Option<Breach>,
+) -> Result<(), AllocError>
+    ensures breaches { OnOk result (breaches_told list.new.items ≡ breaches_told list.old.items ++ breach_list found) }
+    ensures lines { All (IsShown lines.now) list.old.items → OnOk result (All (IsShown lines.now) list.new.items) }
+{
+    if let Some(breach) = found {
+        list.push(explain_breach(lines, breach))?;
+    }
+    Ok(())
+}
+
+// Adds the breaches of a session.
+fn add_all<'a>(
+    lines: &[Located<'a>],
+    list: &mut Vec<Explained<'a>>,
+    surveyed: &Surveyed,
+) -> Result<(), AllocError>
+    ensures breaches { OnOk result (breaches_told list.new.items ≡ breaches_told list.old.items ++ breaches_in surveyed.now) }
+    ensures lines { All (IsShown lines.now) list.old.items → OnOk result (All (IsShown lines.now) list.new.items) }
+{
+    add(lines, list, surveyed.ryw)?;
+    add(lines, list, surveyed.mr)?;
+    add(lines, list, surveyed.wfr)?;
+    add(lines, list, surveyed.mw)
+}
+
+/// The breaches of a survey, in their order, each with the lines that show it.
+pub fn explain<'a>(
+    alloc: Global,
+    lines: &[Located<'a>],
+    survey: &[Surveyed],
+) -> Result<Vec<Explained<'a>>, AllocError>
+    ensures breaches { IfOk result (λ list. breaches_told list.items ≡ breaches_of survey.now) }
+    ensures lines { IfOk result (λ list. All (IsShown lines.now) list.items) }
+{
+    let mut list = Vec::new(alloc);
+    for surveyed in survey {
+        add_all(lines, &mut list, surveyed)?;
+    }
+    Ok(list)
+}

@@ -1,0 +1,23 @@
+//! What an audit found, told by the lines of its file.
+//!
+//! Callers give the text of an audit file and what the judge told of it. [`locate`] makes of the text its lines that tell something, each with its place
+//! and what it tells. [`explain`] makes of a survey the breaches that it has, in their order, each with the lines of both operations and of the Write that
+//! is missing. [`explain_forged`] says of an entry that can't be true which condition it fails, with the line that it doesn't go with. [`explained_text`]
+//! and [`forged_text`] show these to people.
+//!
+//! Callers owe nothing. Where the survey isn't of this file, lines may be missing, and are `None`. It isn't promised that memory suffices.
+#![tactic(auto)]
+
+pub mod explained;
+pub mod located;
+pub mod refused;
+mod sentence;
+pub mod telling;
+
+pub use explained::{Explained, Shown, explain};
+pub use located::{Located, locate};
+pub use refused::{Cause, Forged, explain_forged};
+pub use telling::{explained_text, forged_text};
+
+#[cfg(test)]
+mod tests;
