@@ -1,4 +1,5 @@
 pub mod Explained
+pub mod Explanation
 pub mod Located
 pub mod Refused
 pub mod Sentence

@@ -9,12 +9,14 @@
 #![tactic(auto)]
 
 pub mod explained;
+pub mod explanation;
 pub mod located;
 pub mod refused;
 mod sentence;
 pub mod telling;
 
 pub use explained::{Explained, Shown, explain};
+pub use explanation::explanation_text;
 pub use located::{Located, locate};
 pub use refused::{Cause, Forged, explain_forged};
 pub use telling::{explained_text, forged_text};
