@@ -1,3 +1,4 @@
+pub mod Dumped
 pub mod Explained
 pub mod Explanation
 pub mod Located

@@ -8,6 +8,7 @@
 //! Callers owe nothing. Where the survey isn't of this file, lines may be missing, and are `None`. It isn't promised that memory suffices.
 #![tactic(auto)]
 
+pub mod dumped;
 pub mod explained;
 pub mod explanation;
 pub mod located;
@@ -15,8 +16,9 @@ pub mod refused;
 mod sentence;
 pub mod telling;
 
+pub use dumped::held_at;
 pub use explained::{Explained, Shown, explain};
-pub use explanation::explanation_text;
+pub use explanation::{audited_text, explanation_text, refusal_text};
 pub use located::{Located, locate};
 pub use refused::{Cause, Forged, explain_forged};
 pub use telling::{explained_text, forged_text};

@@ -36,7 +36,7 @@ fn shown(alloc: Global, bytes: &[u8]) -> Result<String, AllocError> {
 }
 
 // A line by its number, and what it is.
-fn line_text(alloc: Global, what: &str, line: Option<Shown<'_>>) -> Result<String, AllocError> {
+pub(crate) fn line_text(alloc: Global, what: &str, line: Option<Shown<'_>>) -> Result<String, AllocError> {
     let Some(line) = line else {
         return format!(in alloc; "  {what}: no line\n");
     };

@@ -1,7 +1,7 @@
 -- What words ask for, and what becomes of it.
 use Rattle.std.proofs.Common.{◌≡◌, ◌<◌, ◌≤◌, ◌∙◌, ℕ, Bool, List, [], Option, None, Some, IfSome, IfErr, Result, Ok, Err, ap, arith, inl, refl, subst, sym}
 use Rattle.std.proofs.KnownBytes.{Keeps-refl}
-use Rattle.bayou_command.specs.Words.{AreMistaken, AskFor, AskForText, Asked, Input as Named, a_check, a_connect, a_key, a_net, a_renewal, a_run, a_serve, a_web, an_audit, an_export, an_import, file, standard}
+use Rattle.bayou_command.specs.Words.{AreMistaken, AskFor, AskForText, Asked, Input as Named, a_check, a_connect, a_key, a_net, a_renewal, a_run, a_serve, a_web, an_audit, an_explanation, an_export, an_import, file, standard}
 use Rattle.bayou_print.specs.declared.ended.Ended.{Ended}
 use Rattle.bayou_print.specs.declared.fault.RunFault.{RunFault}
 use Rattle.bayou_print.specs.declared.fault.RunFault.TheVariants.{Line, Memory, Device, Network, Input, Output}
@@ -54,6 +54,7 @@ kept (an_export wanted) text contents = (refl, Keeps-refl contents)
 kept (an_import wanted) text contents = (refl, Keeps-refl contents)
 kept (a_web wanted) text contents = (refl, Keeps-refl contents)
 kept (a_check wanted) text contents = (refl, Keeps-refl contents)
+kept (an_explanation source) text contents = (refl, Keeps-refl contents)
 
 -- want of memory before anything was read is an end of each task
 pub works_unread : (known : Option (List ℕ)) (asked : Asked) (status : ℕ) (contents : Option (List ℕ)) (read_fails write_fails : Bool) (reads writes : ℕ) (told telling : Account) (has_failed : Bool)

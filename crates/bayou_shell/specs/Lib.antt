@@ -1,5 +1,6 @@
 pub mod Audit
 pub mod Checks
+pub mod Explanations
 pub mod Exports
 pub mod Imports
 pub mod Inner

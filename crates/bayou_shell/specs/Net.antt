@@ -7,7 +7,7 @@ use Rattle.bayou_script.specs.Script.{lines_of}
 use Rattle.bayou_print.specs.declared.fault.RunFault.{RunFault}
 use Rattle.bayou_print.specs.declared.fault.RunFault.TheVariants.{Line, Memory, Device, Network, Input, Output}
 use Rattle.bayou_shell.specs.declared.errand.Errand.{Errand}
-use Rattle.bayou_shell.specs.declared.errand.Errand.TheVariants.{Check, Connect, Done, Export, Import, Key, Net, Renew, Serve, Web}
+use Rattle.bayou_shell.specs.declared.errand.Errand.TheVariants.{Check, Connect, Done, Explain, Export, Import, Key, Net, Renew, Serve, Web}
 
 -- why an input is not taken as a script over sockets: its least line with a fault, or that it, or memory, is wanting
 abbrev pub RefusesNet : List ℕ → RunFault → Type 0
@@ -30,4 +30,5 @@ NetsAs folder input (Ok (Export extract)) old new = ⊥
 NetsAs folder input (Ok (Import intake)) old new = ⊥
 NetsAs folder input (Ok (Web window)) old new = ⊥
 NetsAs folder input (Ok (Check checkup)) old new = ⊥
+NetsAs folder input (Ok (Explain explaining)) old new = ⊥
 NetsAs folder input (Err fault) old new = RefusesNet input fault × Keeps old new

@@ -8,7 +8,7 @@ use Rattle.bayou_command.specs.Import.{Import as Lines}
 use Rattle.bayou_command.specs.Web.{Web as Shown}
 use Rattle.bayou_command.specs.Renew.{Renewal as Asking}
 use Rattle.bayou_command.specs.Serve.{Service}
-use Rattle.bayou_command.specs.Words.{AreMistaken, AskForText, Asked, Input, a_check, a_connect, a_key, a_net, a_renewal, a_run, a_serve, a_web, an_audit, an_export, an_import, standard}
+use Rattle.bayou_command.specs.Words.{AreMistaken, AskForText, Asked, Input, a_check, a_connect, a_key, a_net, a_renewal, a_run, a_serve, a_web, an_audit, an_explanation, an_export, an_import, standard}
 use Rattle.bayou_print.specs.declared.ended.Ended.{Ended}
 use Rattle.bayou_print.specs.declared.fault.RunFault.{RunFault}
 use Rattle.bayou_print.specs.declared.fault.RunFault.TheVariants.{Line, Memory, Device, Network, Output}
@@ -18,6 +18,7 @@ use Rattle.bayou_print.specs.Telling.{IsPut, TellsEnd, TellsFault}
 use Rattle.bayou_print.specs.Turns.{EndsReading}
 use Rattle.bayou_shell.specs.Audit.{AuditsAs}
 use Rattle.bayou_shell.specs.Checks.{IsCheckupOf}
+use Rattle.bayou_shell.specs.Explanations.{IsExplainingOf}
 use Rattle.bayou_shell.specs.Exports.{IsExtractOf}
 use Rattle.bayou_shell.specs.Imports.{IsIntakeOf}
 use Rattle.bayou_shell.specs.Pages.{IsWindowOf}
@@ -26,7 +27,7 @@ use Rattle.bayou_shell.specs.Plans.{IsCallOf, IsKeyOf, IsServiceOf}
 use Rattle.bayou_shell.specs.Renewals.{IsRenewalOf}
 use Rattle.bayou_shell.specs.Run.{RunsAs}
 use Rattle.bayou_shell.specs.declared.errand.Errand.{Errand}
-use Rattle.bayou_shell.specs.declared.errand.Errand.TheVariants.{Check, Connect, Done, Export, Import, Key, Net, Renew, Serve, Web}
+use Rattle.bayou_shell.specs.declared.errand.Errand.TheVariants.{Check, Connect, Done, Explain, Export, Import, Key, Net, Renew, Serve, Web}
 use Rattle.bayou_streams.specs.Account.{Account}
 use Rattle.bayou_streams.specs.Written.{AppendsFront}
 
@@ -78,6 +79,7 @@ ServesAs wanted (Ok (Export extract)) old new = ⊥
 ServesAs wanted (Ok (Import intake)) old new = ⊥
 ServesAs wanted (Ok (Web window)) old new = ⊥
 ServesAs wanted (Ok (Check checkup)) old new = ⊥
+ServesAs wanted (Ok (Explain explaining)) old new = ⊥
 ServesAs wanted (Err fault) old new = (fault ≡ Memory) × Keeps old new
 
 -- The servers are left to be asked what lines say, as the words say; or memory ran out. Nothing is printed yet.
@@ -92,6 +94,7 @@ ConnectsAs wanted (Ok (Export extract)) old new = ⊥
 ConnectsAs wanted (Ok (Import intake)) old new = ⊥
 ConnectsAs wanted (Ok (Web window)) old new = ⊥
 ConnectsAs wanted (Ok (Check checkup)) old new = ⊥
+ConnectsAs wanted (Ok (Explain explaining)) old new = ⊥
 ConnectsAs wanted (Err fault) old new = (fault ≡ Memory) × Keeps old new
 
 -- The key is left to be made, as the words say; or memory ran out. Nothing is printed yet.
@@ -106,6 +109,7 @@ KeysAs name file (Ok (Export extract)) old new = ⊥
 KeysAs name file (Ok (Import intake)) old new = ⊥
 KeysAs name file (Ok (Web window)) old new = ⊥
 KeysAs name file (Ok (Check checkup)) old new = ⊥
+KeysAs name file (Ok (Explain explaining)) old new = ⊥
 KeysAs name file (Err fault) old new = (fault ≡ Memory) × Keeps old new
 
 -- The journal is left to be made, as the words say; or memory ran out. Nothing is printed yet.
@@ -120,6 +124,7 @@ RenewsAs wanted (Ok (Export extract)) old new = ⊥
 RenewsAs wanted (Ok (Import intake)) old new = ⊥
 RenewsAs wanted (Ok (Web window)) old new = ⊥
 RenewsAs wanted (Ok (Check checkup)) old new = ⊥
+RenewsAs wanted (Ok (Explain explaining)) old new = ⊥
 RenewsAs wanted (Err fault) old new = (fault ≡ Memory) × Keeps old new
 
 -- The rows are left to be printed, as the words say; or memory ran out. Nothing is printed yet.
@@ -134,6 +139,7 @@ ExportsAs wanted (Ok (Renew renewal)) old new = ⊥
 ExportsAs wanted (Ok (Import intake)) old new = ⊥
 ExportsAs wanted (Ok (Web window)) old new = ⊥
 ExportsAs wanted (Ok (Check checkup)) old new = ⊥
+ExportsAs wanted (Ok (Explain explaining)) old new = ⊥
 ExportsAs wanted (Err fault) old new = (fault ≡ Memory) × Keeps old new
 
 -- The lines are left to be put, as the words say; or memory ran out. Nothing is printed yet.
@@ -148,6 +154,7 @@ ImportsAs wanted (Ok (Renew renewal)) old new = ⊥
 ImportsAs wanted (Ok (Export extract)) old new = ⊥
 ImportsAs wanted (Ok (Web window)) old new = ⊥
 ImportsAs wanted (Ok (Check checkup)) old new = ⊥
+ImportsAs wanted (Ok (Explain explaining)) old new = ⊥
 ImportsAs wanted (Err fault) old new = (fault ≡ Memory) × Keeps old new
 
 -- The page is left to be served, as the words say; or memory ran out. Nothing is printed yet.
@@ -162,11 +169,13 @@ ShowsAs wanted (Ok (Renew renewal)) old new = ⊥
 ShowsAs wanted (Ok (Export extract)) old new = ⊥
 ShowsAs wanted (Ok (Import intake)) old new = ⊥
 ShowsAs wanted (Ok (Check checkup)) old new = ⊥
+ShowsAs wanted (Ok (Explain explaining)) old new = ⊥
 ShowsAs wanted (Err fault) old new = (fault ≡ Memory) × Keeps old new
 
 -- The text is left to be checked, as the words say; or memory ran out. Nothing is printed yet.
 abbrev pub ChecksTextAs : Checking → Result Errand RunFault → (old new : Option (List ℕ)) → Type 0
 ChecksTextAs wanted (Ok (Check checkup)) old new = IsCheckupOf wanted checkup × Keeps old new
+ChecksTextAs wanted (Ok (Explain explaining)) old new = ⊥
 ChecksTextAs wanted (Ok (Done status)) old new = ⊥
 ChecksTextAs wanted (Ok (Net folder script)) old new = ⊥
 ChecksTextAs wanted (Ok (Serve service)) old new = ⊥
@@ -177,6 +186,21 @@ ChecksTextAs wanted (Ok (Export extract)) old new = ⊥
 ChecksTextAs wanted (Ok (Import intake)) old new = ⊥
 ChecksTextAs wanted (Ok (Web window)) old new = ⊥
 ChecksTextAs wanted (Err fault) old new = (fault ≡ Memory) × Keeps old new
+
+-- The audit is left to be made and explained, as the words say; or memory ran out. Nothing is printed yet.
+abbrev pub ExplainsTextAs : Input → Result Errand RunFault → (old new : Option (List ℕ)) → Type 0
+ExplainsTextAs source (Ok (Explain explaining)) old new = IsExplainingOf source explaining × Keeps old new
+ExplainsTextAs source (Ok (Check checkup)) old new = ⊥
+ExplainsTextAs source (Ok (Done status)) old new = ⊥
+ExplainsTextAs source (Ok (Net folder script)) old new = ⊥
+ExplainsTextAs source (Ok (Serve service)) old new = ⊥
+ExplainsTextAs source (Ok (Connect call)) old new = ⊥
+ExplainsTextAs source (Ok (Key wish)) old new = ⊥
+ExplainsTextAs source (Ok (Renew renewal)) old new = ⊥
+ExplainsTextAs source (Ok (Export extract)) old new = ⊥
+ExplainsTextAs source (Ok (Import intake)) old new = ⊥
+ExplainsTextAs source (Ok (Web window)) old new = ⊥
+ExplainsTextAs source (Err fault) old new = (fault ≡ Memory) × Keeps old new
 
 -- what becomes of what is asked for on an input of these bytes
 abbrev pub Works : Asked → List ℕ → Result Errand RunFault → (old new : Option (List ℕ)) → Type 0
@@ -191,6 +215,7 @@ Works (an_export wanted) input came old new = ExportsAs wanted came old new
 Works (an_import wanted) input came old new = ImportsAs wanted came old new
 Works (a_web wanted) input came old new = ShowsAs wanted came old new
 Works (a_check wanted) input came old new = ChecksTextAs wanted came old new
+Works (an_explanation source) input came old new = ExplainsTextAs source came old new
 
 -- what is left to be done then: nothing where a fault was told
 abbrev pub errand_of : Result Errand RunFault → Errand
@@ -209,6 +234,7 @@ IsWell (Export extract) = Unit {0}
 IsWell (Import intake) = Unit {0}
 IsWell (Web window) = Unit {0}
 IsWell (Check checkup) = Unit {0}
+IsWell (Explain explaining) = Unit {0}
 
 abbrev pub input_of_asked : Asked → Input
 input_of_asked (a_run source) = source
@@ -222,6 +248,7 @@ input_of_asked (an_export wanted) = standard
 input_of_asked (an_import wanted) = standard
 input_of_asked (a_web wanted) = standard
 input_of_asked (a_check wanted) = standard
+input_of_asked (an_explanation source) = standard
 
 -- What becomes of what is asked for on a file: the file may be refused, or memory may run out before it is opened, and nothing is printed;
 -- else it is done on what a reader of it gives, which is at fault only where a call of it failed or no turn was left.

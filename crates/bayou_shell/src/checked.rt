@@ -19,7 +19,7 @@ use std::io::{Read, Write};
 const REFUSED: u8 = 2;
 
 /// The exit status of every other fault.
-const FAILED: u8 = 3;
+pub(crate) const FAILED: u8 = 3;
 
 /// What the standard input is called.
 const STANDARD: &str = "-";
@@ -50,7 +50,7 @@ impl Checkup {
 }
 
 /// All that the reader has left.
-fn read_whole<R: Read>(
+pub(crate) fn read_whole<R: Read>(
     alloc: Global,
     input: &mut CountedChannel<R, ()>,
 ) -> Result<Vec<u8>, RunFault>

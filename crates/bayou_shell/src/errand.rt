@@ -1,6 +1,7 @@
 //! What the words leave to be done.
 use crate::checked::Checkup;
 use crate::connected::Call;
+use crate::explained::Explaining;
 use crate::exported::Extract;
 use crate::imported::Intake;
 use crate::keyed::NewKey;
@@ -35,4 +36,6 @@ pub enum Errand {
     Web(Window),
     /// To tell every fault of a text.
     Check(Checkup),
+    /// To audit a file, and to explain what is told of it.
+    Explain(Explaining),
 }

@@ -16,6 +16,7 @@ use crate::audit::run_audit;
 use crate::checked::Checkup;
 use crate::connected::Call;
 use crate::errand::Errand;
+use crate::explained::Explaining;
 use crate::exported::Extract;
 use crate::files::Files;
 use crate::imported::Intake;
@@ -64,8 +65,8 @@ pub fn refuse_words<E: Write>(errors: &mut Output<E>, error: &io::Error) -> u8
     REFUSED
 }
 
-/// Where the input of a task comes from. A server that is to live, a key, a renewal and an export have none, and lines for servers, of an import and of what is checked are
-/// read only as they are done: for these it is the standard input, which isn't read.
+/// Where the input of a task comes from. A server that is to live, a key, a renewal and an export have none, and lines for servers, of an import, of what is checked and of what is
+/// explained are read only as they are done: for these it is the standard input, which isn't read.
 fn source_of<'a>(task: &Task<'a>) -> Source<'a>
     ensures { input_seen result ≡ input_of_asked (task_seen task.now) }
 {
@@ -74,7 +75,7 @@ fn source_of<'a>(task: &Task<'a>) -> Source<'a>
         Task::Net { script, .. } => *script,
         Task::Serve(_) | Task::Connect(_) | Task::Key { .. } => Source::Standard,
         Task::Renew(_) | Task::Export(_) | Task::Import(_) => Source::Standard,
-        Task::Web(_) | Task::Check(_) => Source::Standard,
+        Task::Web(_) | Task::Check(_) | Task::Explain(_) => Source::Standard,
     }
 }
 
@@ -113,6 +114,7 @@ fn work<R: Read, W: Write>(
         Task::Import(importing) => Ok(Errand::Import(Intake::of(alloc, &importing)?)),
         Task::Web(showing) => Ok(Errand::Web(Window::of(alloc, &showing)?)),
         Task::Check(checking) => Ok(Errand::Check(Checkup::of(alloc, &checking)?)),
+        Task::Explain(source) => Ok(Errand::Explain(Explaining::of(alloc, source)?)),
     }
 }
 
