@@ -9,13 +9,15 @@
 #![tactic(auto)]
 
 pub mod explained;
+pub mod line;
 pub mod located;
 pub mod refused;
 mod sentence;
 pub mod telling;
 
 pub use explained::{Explained, Shown, explain};
-pub use located::{Located, locate};
+pub use line::Located;
+pub use located::locate;
 pub use refused::{Cause, Forged, explain_forged};
 pub use telling::{explained_text, forged_text};
 
