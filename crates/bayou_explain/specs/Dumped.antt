@@ -1,14 +1,13 @@
 -- The lines of a dump.
-use Rattle.std.specs.Prelude.{◌≡◌, ℕ, Bool, List, Some, false, length, slice_get, take, true}
+use Rattle.std.specs.Prelude.{◌≡◌, ◌==◌, ℕ, Bool, List, Some, false, length, slice_get, take, true}
 use Rattle.std.specs.List.{filter}
-use Rattle.std.specs.Nat.{eqb}
 use Rattle.bayou_text.specs.Said.{Said, audit_said, entry, held}
 use Rattle.bayou_explain.specs.declared.explained.Shown.{Shown}
-use Rattle.bayou_explain.specs.declared.located.Located.{Located}
+use Rattle.bayou_explain.specs.declared.line.Located.{Located}
 use Rattle.bayou_explain.specs.Explained.{IsOfLine}
 
 abbrev pub is_held_of : ℕ → Said → Bool
-is_held_of server (held place write counts) = eqb place server
+is_held_of server (held place write counts) = place == server
 is_held_of server other = false
 
 -- whether the line tells a Write that the server holds

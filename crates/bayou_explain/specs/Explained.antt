@@ -5,7 +5,7 @@ use Rattle.bayou_judge.specs.declared.verdict.Surveyed.{Surveyed}
 use Rattle.bayou_text.specs.Said.{Said, audit_said}
 use Rattle.bayou_explain.specs.declared.explained.Explained.{Explained}
 use Rattle.bayou_explain.specs.declared.explained.Shown.{Shown}
-use Rattle.bayou_explain.specs.declared.located.Located.{Located}
+use Rattle.bayou_explain.specs.declared.line.Located.{Located}
 use Rattle.bayou_explain.specs.Located.{IsHeldBy, IsOperationAt}
 
 abbrev pub breach_list : Option Breach → List Breach

@@ -5,7 +5,7 @@ use Rattle.bayou_judge.specs.declared.breach.Breach.{Breach}
 use Rattle.bayou_judge.specs.declared.verdict.BadEvidence.{BadEvidence}
 use Rattle.bayou_judge.specs.declared.verdict.BadEvidence.TheVariants.{BadDump, Forged}
 use Rattle.bayou_explain.specs.declared.explanation.TheConstants.{MISFIT}
-use Rattle.bayou_explain.specs.declared.located.Located.{Located}
+use Rattle.bayou_explain.specs.declared.line.Located.{Located}
 use Rattle.bayou_explain.specs.declared.refused.Forged.{Forged as Told}
 use Rattle.bayou_explain.specs.Located.{tells_entry}
 use Rattle.bayou_explain.specs.Refused.{IsForged}

@@ -1,8 +1,8 @@
 -- Which lines tell what.
-use Rattle.std.specs.Prelude.{◌≡◌, ℕ, ⊥, Bool, true, false, List, Some, slice_get}
+use Rattle.std.specs.Prelude.{◌≡◌, ℕ, Bool, true, false, List, Some, slice_get}
 use Rattle.bayou_base.specs.declared.wid.Wid.{Wid}
 use Rattle.bayou_text.specs.Said.{Said, audit_said, entry, held}
-use Rattle.bayou_explain.specs.declared.located.Located.{Located}
+use Rattle.bayou_explain.specs.declared.line.Located.{Located}
 
 -- the line stands at its place among these
 abbrev pub StandsIn : List (List ℕ) → Located → Type 0

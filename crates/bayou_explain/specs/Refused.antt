@@ -1,5 +1,5 @@
 -- Which condition an entry fails that can't be true.
-use Rattle.std.specs.Prelude.{◌≡◌, ◌≢◌, ◌≤◌, ℕ, ⊤, ⊥, List, Option, None, Some, Contains, MatchOption, length, slice_get, take, true}
+use Rattle.std.specs.Prelude.{◌≡◌, ◌≢◌, ◌≤◌, ℕ, ⊤, List, Option, None, Some, Contains, MatchOption, length, slice_get, take, true}
 use Rattle.std.specs.List.{filter}
 use Rattle.bayou_base.specs.declared.asks.Asks.{Asks}
 use Rattle.bayou_base.specs.declared.entry.Entry.{Entry}
@@ -10,7 +10,7 @@ use Rattle.bayou_base.specs.declared.stamp.Stamp.{Stamp}
 use Rattle.bayou_base.specs.declared.wid.Wid.{Wid}
 use Rattle.bayou_judge.specs.Evidence.{TellsOf}
 use Rattle.bayou_text.specs.Said.{Said, audit_said, entry, held}
-use Rattle.bayou_explain.specs.declared.located.Located.{Located}
+use Rattle.bayou_explain.specs.declared.line.Located.{Located}
 use Rattle.bayou_explain.specs.declared.refused.Cause.{Cause}
 use Rattle.bayou_explain.specs.declared.refused.Cause.TheVariants as cause
 use Rattle.bayou_explain.specs.declared.refused.Forged.{Forged}

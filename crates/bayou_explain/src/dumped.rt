@@ -4,7 +4,7 @@ ghost use Rattle.std.specs.List.{filter};
 ghost use Rattle.bayou_explain.specs.Dumped.{IsHeldNumber, tells_held};
 
 use crate::explained::{Shown, shown_as};
-use crate::located::Located;
+use crate::line::Located;
 use bayou_base::ServerId;
 use bayou_text::AuditLine;
 

@@ -3,13 +3,13 @@ ghost use Rattle.std.specs.Prelude.{◌≡◌, ◌++◌, ℕ, All, IfOk, List, O
 ghost use Rattle.bayou_explain.specs.Explained.{IsFound, IsOfLine, IsShown, breach_list, breaches_in, breaches_of, breaches_told};
 ghost use Rattle.bayou_explain.specs.Located.{IsHeldBy, IsOperationAt};
 
-use crate::located::Located;
+use crate::line::Located;
 use bayou_base::{ServerId, SessionId, Wid};
 use bayou_judge::{Breach, Surveyed};
 use std::alloc::{AllocError, Global};
 
 /// A line of a text.
-#[derive(Clone, Copy, Debug)]
+#[derive(Clone, Copy)]
 pub struct Shown<'a> {
     /// Its place among the lines, from 0 on.
     pub at: usize,
@@ -17,7 +17,7 @@ pub struct Shown<'a> {
 }
 
 /// A breach, and the lines that show it; `None` where no line does.
-#[derive(Clone, Copy, Debug)]
+#[derive(Clone, Copy)]
 pub struct Explained<'a> {
     pub breach: Breach,
     /// The earlier operation.

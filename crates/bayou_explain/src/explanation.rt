@@ -5,7 +5,7 @@ ghost use Rattle.bayou_explain.specs.Explanation.{TellEach, TellsRefusal, audite
 
 use crate::dumped::held_at;
 use crate::explained::explain;
-use crate::located::Located;
+use crate::line::Located;
 use crate::refused::explain_forged;
 use crate::telling::{explained_text, forged_text, line_text};
 use bayou_base::ServerId;

@@ -2,8 +2,9 @@
 //!
 //! Callers give the text of an audit file and what the judge told of it. [`locate`] makes of the text its lines that tell something, each with its place
 //! and what it tells. [`explain`] makes of a survey the breaches that it has, in their order, each with the lines of both operations and of the Write that
-//! is missing. [`explain_forged`] says of an entry that can't be true which condition it fails, with the line that it doesn't go with. [`explained_text`]
-//! and [`forged_text`] show these to people.
+//! is missing. [`explain_forged`] says of an entry that can't be true which condition it fails, with the line that it doesn't go with, and [`held_at`] gives
+//! the line of a Write of a dump. [`explained_text`] and [`forged_text`] show these to people; [`explanation_text`] and [`refusal_text`] show all that there is,
+//! and [`audited_text`] says what was audited.
 //!
 //! Callers owe nothing. Where the survey isn't of this file, lines may be missing, and are `None`. It isn't promised that memory suffices.
 #![tactic(auto)]
@@ -11,6 +12,7 @@
 pub mod dumped;
 pub mod explained;
 pub mod explanation;
+pub mod line;
 pub mod located;
 pub mod refused;
 mod sentence;
@@ -19,7 +21,8 @@ pub mod telling;
 pub use dumped::held_at;
 pub use explained::{Explained, Shown, explain};
 pub use explanation::{audited_text, explanation_text, refusal_text};
-pub use located::{Located, locate};
+pub use line::Located;
+pub use located::locate;
 pub use refused::{Cause, Forged, explain_forged};
 pub use telling::{explained_text, forged_text};
 

@@ -1,23 +1,13 @@
-//! The lines of an audit file that tell something, each with its place.
-ghost use Rattle.std.specs.Prelude.{◌≡◌, ◌↔◌, ℕ, All, IfOk, IfSome, IsNone, IsTrue, map};
+//! The lines of an audit file that tell something, each with its place: which they are, and which of them tell what.
+ghost use Rattle.std.specs.Prelude.{◌≡◌, ◌↔◌, All, IfOk, IfSome, IsTrue, map};
 ghost use Rattle.bayou_script.specs.Order.{lines_of};
 ghost use Rattle.bayou_text.specs.Said.{audit_said};
-ghost use Rattle.bayou_text.specs.Table.{Spells};
 ghost use Rattle.bayou_explain.specs.Located.{IsHeldBy, IsOperationAt, StandsIn, tells_entry};
 
+use crate::line::Located;
 use bayou_base::{ServerId, SessionId, Wid};
 use bayou_text::{AuditLine, Line, LineFault, read_line};
 use std::alloc::{AllocError, Global};
-
-/// A line that tells an entry, or a Write that is held.
-#[derive(Debug, Drop)]
-pub struct Located<'a> {
-    /// Its place among the lines of its text, from 0 on.
-    pub at: usize,
-    pub bytes: &'a [u8],
-    pub told: AuditLine,
-    pub ghost read: { Spells bytes.now (audit_said told) },
-}
 
 impl<'a> Located<'a> {
     /// Whether it tells an entry.

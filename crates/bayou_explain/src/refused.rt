@@ -8,12 +8,12 @@ ghost use Rattle.bayou_explain.specs.Located.{tells_entry};
 ghost use Rattle.bayou_explain.specs.Refused.{AsksOther, IsBlameless, IsCause, IsCauseOf, IsEntryNumber, IsForged, IsHeldOtherwise, IsNotBelow, IsSound, NamesWrite};
 
 use crate::explained::{Shown, held, shown_as};
-use crate::located::Located;
+use crate::line::Located;
 use bayou_base::{Asks, Entry, ServerId, SessionId, Stamp, Vector, What, Wid};
 use bayou_text::AuditLine;
 
 /// Which condition an entry fails.
-#[derive(Clone, Copy, Debug)]
+#[derive(Clone, Copy)]
 pub enum Cause<'a> {
     /// Its place isn't above the one that this earlier entry of its session has.
     Place(Shown<'a>),
@@ -194,7 +194,7 @@ fn cause_of<'a>(
 }
 
 /// An entry that can't be true.
-#[derive(Clone, Copy, Debug)]
+#[derive(Clone, Copy)]
 pub struct Forged<'a> {
     pub entry: Shown<'a>,
     /// Which condition it fails first; `None` where the lines show none.

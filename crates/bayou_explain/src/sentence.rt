@@ -88,7 +88,7 @@ pub(crate) fn sentence(alloc: Global, breach: &Breach) -> Result<String, AllocEr
 
 /// Which condition an entry fails, in a line.
 pub(crate) fn reason(cause: Option<Cause<'_>>) -> &'static str
-    ensures { result.now ≡ reason_text cause }
+    ensures { result.now ≡ reason_text cause.entry }
 {
     match cause {
         Some(Cause::Place(_)) => "  its place isn't above the one of that earlier entry of its session\n",
