@@ -4,7 +4,8 @@ _bayou() {
     [ "$COMP_CWORD" -lt 2 ] || command=${COMP_WORDS[1]}
     case $command in
         '') words='run net audit check serve connect key renew export import web help -h --help -V --version' ;;
-        run | audit) words='-h --help' ;;
+        run) words='-h --help' ;;
+        audit) words='--explain -h --help' ;;
         check) words='--json -h --help' ;;
         net) words='--dir -h --help' ;;
         serve)

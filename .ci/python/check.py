@@ -11,6 +11,7 @@ import sys
 import tempfile
 
 import tables
+from explained import explained
 
 TOP = tables.TOP
 FAULT = re.compile(rb"bayou: line (\d+): ([a-zA-Z ]+)\n")
@@ -204,7 +205,7 @@ def device(tries, path):
         tries.that("in use", net(here, one), (3, "bayou: device\n  %s: another run, or a server that lives, has it\n" % journal))
 
 
-GROUPS = {"least": least, "forms": forms, "streams": streams, "told": told}
+GROUPS = {"least": least, "forms": forms, "streams": streams, "told": told, "explained": explained}
 
 
 def main(program, *words):

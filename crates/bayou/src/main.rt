@@ -9,7 +9,7 @@ mod progress;
 
 use bayou_connect::Input;
 use bayou_shell::{
-    Errand, Files, refuse_words, run_checked, run_connected, run_exported, run_imported, run_key,
+    Errand, Files, refuse_words, run_checked, run_connected, run_explained, run_exported, run_imported, run_key,
     run_main, run_net, run_renewed, run_served, run_web, tell_device,
 };
 use bayou_streams::{CountedChannel, Output};
@@ -167,6 +167,14 @@ fn run<
         Errand::Check(checkup) => {
             run_checked(rt, alloc, &checkup, &mut input, &mut output, &mut errors)
         }
+        Errand::Explain(explaining) => run_explained(
+            rt,
+            alloc,
+            &explaining,
+            &mut input,
+            &mut output,
+            &mut errors,
+        ),
         Errand::Serve(service) => {
             // A server that lives is at work for as long as it does, which is no news.
             screen.lock(rt).end();

@@ -20,6 +20,10 @@ use Rattle.bayou_shell.specs.declared.explained.Explaining.{Explaining}
 abbrev pub IsExplainingOf : Input → Explaining → Type 0
 IsExplainingOf source explaining = source ≡ input_kept (option_map (λ name. string_bytes name) explaining.file)
 
+-- the survey of the evidence, or why there is none
+abbrev pub IsSurveyedOf : Evidence → Result (Vec Surveyed) BadEvidence → Type 0
+IsSurveyedOf evidence survey = SurveyAnswer evidence.count evidence.entries evidence.dumps survey
+
 -- what is told of a survey begins with each of its breaches; of a refused verdict nothing is said here
 abbrev pub IsToldOf : Result (Vec Surveyed) BadEvidence → List ℕ → Type 0
 IsToldOf (Ok survey) text = (breaches rest : List ℕ) × TellEach (breaches_of survey.items) breaches × (text ≡ breaches ++ rest)
@@ -33,7 +37,7 @@ pub record ExplainsAs (text : List ℕ) (status : ℕ) (old new : Option (List �
   pub audit : List ℕ
   pub audited : IsAudit evidence ended audit
   pub survey : Result (Vec Surveyed) BadEvidence
-  pub surveyed : SurveyAnswer evidence.count evidence.entries evidence.dumps survey
+  pub surveyed : IsSurveyedOf evidence survey
   pub told : List ℕ
   pub tells : IsToldOf survey told
   pub printed : Appends old new (audit ++ told)
