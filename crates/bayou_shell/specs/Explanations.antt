@@ -1,7 +1,6 @@
 -- What an audit that is explained comes to.
 use Rattle.std.specs.Prelude.{◌≡◌, ℕ, List, ◌++◌, All, Option, Result, Ok, Err, option_map, string_bytes}
 use Rattle.std.specs.Global.{Vec}
-use Rattle.std.specs.Io.KnownBytes.{Appends}
 use Rattle.bayou_command.specs.Options.{Input}
 use Rattle.bayou_explain.specs.Explained.{breaches_of}
 use Rattle.bayou_explain.specs.Explanation.{TellEach}
@@ -15,6 +14,7 @@ use Rattle.bayou_script.specs.Script.{lines_of}
 use Rattle.bayou_shell.specs.Audit.{IsAudit}
 use Rattle.bayou_shell.specs.Checks.{input_kept}
 use Rattle.bayou_shell.specs.declared.explained.Explaining.{Explaining}
+use Rattle.bayou_streams.specs.Account.{Account, TakesBytes}
 
 -- what is to be audited is what the words say
 abbrev pub IsExplainingOf : Input → Explaining → Type 0
@@ -30,7 +30,7 @@ IsToldOf (Ok survey) text = (breaches rest : List ℕ) × TellEach (breaches_of 
 IsToldOf (Err bad) text = Unit {0}
 
 -- The text is an audit file: verdict and survey are printed as an audit prints them, and then what they are told by. The status is the audit's.
-pub record ExplainsAs (text : List ℕ) (status : ℕ) (old new : Option (List ℕ)) : Type 0 where
+pub record ExplainsAs (text : List ℕ) (status : ℕ) (old new : Account) : Type 0 where
   pub evidence : Evidence
   pub is : IsAuditFile (lines_of text) evidence
   pub ended : Ended
@@ -40,5 +40,5 @@ pub record ExplainsAs (text : List ℕ) (status : ℕ) (old new : Option (List �
   pub surveyed : IsSurveyedOf evidence survey
   pub told : List ℕ
   pub tells : IsToldOf survey told
-  pub printed : Appends old new (audit ++ told)
+  pub printed : TakesBytes old new (audit ++ told)
   pub status_is : status ≡ ended_status ended

@@ -78,7 +78,7 @@ fn write_audit<W: Write>(
 }
 
 /// Writes the verdict and the survey. What was printed before a fault is written too.
-fn audit<W: Write>(
+pub(crate) fn audit<W: Write>(
     alloc: Global,
     file: &AuditFile,
     output: &mut Output<W>,

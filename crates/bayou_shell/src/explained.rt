@@ -5,16 +5,17 @@ ghost use Rattle.bayou_command.specs.Words.{input_seen};
 ghost use Rattle.bayou_judge.specs.declared.verdict.BadEvidence.{BadEvidence as Bad};
 ghost use Rattle.bayou_judge.specs.declared.verdict.Surveyed.{Surveyed as Found};
 ghost use Rattle.bayou_script.specs.AuditFile.{evidence_of};
+ghost use Rattle.bayou_streams.specs.Account.{account};
 ghost use Rattle.bayou_shell.specs.Explanations.{ExplainsAs, IsExplainingOf, IsSurveyedOf, IsToldOf};
 
-use crate::audit::run_audit;
+use crate::audit::audit;
 use crate::checked::{FAILED, read_whole};
 use crate::reading::read_audit;
 use crate::telling::tell;
 use bayou_command::Source;
 use bayou_explain::{Located, audited_text, explanation_text, locate, refusal_text};
 use bayou_judge::{BadEvidence, Surveyed, lend_dumps, survey};
-use bayou_print::{RunFault, write_text};
+use bayou_print::{RunFault, Waiting, write_text};
 use bayou_script::AuditFile;
 use bayou_streams::{CountedChannel, Output};
 use std::alloc::{AllocError, Global};
@@ -88,13 +89,11 @@ pub fn explain_input<R: Read, W: Write>(
     input: &mut CountedChannel<R, ()>,
     output: &mut Output<W>,
 ) -> Result<u8, RunFault>
-    ensures { IfOk result (λ status. IfSome (R.remaining input.old.reader) (λ text. ExplainsAs text status (W.contents output.old.channel.writer) (W.contents output.new.channel.writer))) }
+    ensures { IfOk result (λ status. IfSome (R.remaining input.old.reader) (λ text. ExplainsAs text status (account W.contents output.old) (account W.contents output.new))) }
 {
     let text = read_whole(alloc, input)?;
-    let mut first = CountedChannel::new(text.as_slice(), ());
-    let ended = run_audit(alloc, &mut first, output)?;
-    let mut again = CountedChannel::new(text.as_slice(), ());
-    let file = read_audit(alloc, &mut again)?;
+    let file = read_audit(alloc, &mut CountedChannel::new(text.as_slice(), ()))?;
+    let ended = audit(alloc, &file, output, Waiting::new(alloc)?)?;
     let told = explain_file(alloc, text.as_slice(), &file)?;
     write_text(output, told.as_bytes())?;
     Ok(ended.status())
