@@ -1,1 +1,1 @@
-mod Kinds
+mod TakenAs

@@ -1,6 +1,6 @@
 use Rattle.bayou_check.specs.Checked.{IsTaken, IsTakenAs}
 use Rattle.bayou_check.specs.declared.kind.Kind.{Kind}
-use Rattle.bayou_check.proofs.Kinds.{always, neither}
+use Rattle.bayou_check.proofs.TakenAs.{always, neither}
 use Rattle.bayou_script.specs.Order.{lines_of}
 use Rattle.bayou_check.proofs.check.kind_of.Goals as goal
 
