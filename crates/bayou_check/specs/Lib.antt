@@ -1,3 +1,4 @@
 pub mod Checked
+pub mod Cut
 pub mod Least
 pub mod Shown

@@ -1,4 +1,7 @@
 //! The lines of a text, one after another.
+ghost use Rattle.std.specs.Prelude.{◌<◌, IfSome};
+ghost use Rattle.bayou_check.specs.Cut.{left_in};
+
 use memchr::memchr;
 
 /// The lines of a text that are left.
@@ -26,7 +29,9 @@ impl<'a> Lines<'a> {
     }
 
     /// The next line, without its line feed.
-    pub(crate) fn take(&mut self) -> Option<Numbered<'a>> {
+    pub(crate) fn take(&mut self) -> Option<Numbered<'a>>
+        ensures { IfSome result (λ line. left_in self.new.rest < left_in self.old.rest) }
+    {
         let rest = self.rest?;
         let (bytes, behind) = match memchr(b'\n', rest) {
             Some(end) => (&rest[..end], Some(&rest[end + 1..])),

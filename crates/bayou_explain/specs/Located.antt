@@ -2,11 +2,12 @@
 use Rattle.std.specs.Prelude.{◌≡◌, ℕ, Bool, true, false, List, Some, slice_get}
 use Rattle.bayou_base.specs.declared.wid.Wid.{Wid}
 use Rattle.bayou_text.specs.Said.{Said, audit_said, entry, held}
+use Rattle.bayou_text.specs.Table.{Spells}
 use Rattle.bayou_explain.specs.declared.line.Located.{Located}
 
--- the line stands at its place among these
+-- the line stands at its place among these, and spells what it is said to tell
 abbrev pub StandsIn : List (List ℕ) → Located → Type 0
-StandsIn lines line = slice_get lines line.at ≡ Some line.bytes.now
+StandsIn lines line = (slice_get lines line.at ≡ Some line.bytes.now) × Spells line.bytes.now (audit_said line.told)
 
 -- the entry of the operation at this place of the session
 abbrev pub IsOperationAt : (session place : ℕ) → Said → Type 0

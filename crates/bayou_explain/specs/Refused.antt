@@ -51,9 +51,9 @@ IsCauseOf before lines server what other = ⊥
 -- Which condition the entry fails after these lines: its place isn't above an earlier one of its session, its session asked for something else before,
 -- or something is wrong with what it tells.
 abbrev pub IsCause : (before lines : List Located) → Entry → Cause → Type 0
-IsCause before lines entry (cause.Place shown) = IsFound before (IsNotBelow entry.session.index entry.place) (Some shown)
-IsCause before lines entry (cause.Asks shown) = IsFound before (AsksOther entry.session.index entry.asks) (Some shown)
-IsCause before lines entry other = IsCauseOf before lines entry.server entry.what other
+IsCause before lines tried (cause.Place shown) = IsFound before (IsNotBelow tried.session.index tried.place) (Some shown)
+IsCause before lines tried (cause.Asks shown) = IsFound before (AsksOther tried.session.index tried.asks) (Some shown)
+IsCause before lines tried other = IsCauseOf before lines tried.server tried.what other
 
 -- the lines show nothing against what an entry of this server tells, after these; of a read they always show that it isn't so
 abbrev pub IsSound : (before lines : List Located) → ServerId → What → Type 0
@@ -64,8 +64,8 @@ IsSound before lines server whats.Refused = ⊤
 
 -- the lines show no condition that the entry fails after these
 abbrev pub IsBlameless : (before lines : List Located) → Entry → Type 0
-IsBlameless before lines entry = IsFound before (IsNotBelow entry.session.index entry.place) None
-    × IsFound before (AsksOther entry.session.index entry.asks) None × IsSound before lines entry.server entry.what
+IsBlameless before lines tried = IsFound before (IsNotBelow tried.session.index tried.place) None
+    × IsFound before (AsksOther tried.session.index tried.asks) None × IsSound before lines tried.server tried.what
 
 -- the line at this place is the entry of this number
 abbrev pub IsEntryNumber : List Located → (number at : ℕ) → Type 0

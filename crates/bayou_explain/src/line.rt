@@ -1,7 +1,4 @@
 //! A line of an audit file, and what it tells.
-ghost use Rattle.bayou_text.specs.Said.{audit_said};
-ghost use Rattle.bayou_text.specs.Table.{Spells};
-
 use bayou_text::AuditLine;
 
 /// A line that tells an entry, or a Write that is held.
@@ -11,5 +8,4 @@ pub struct Located<'a> {
     pub at: usize,
     pub bytes: &'a [u8],
     pub told: AuditLine,
-    pub ghost read: { Spells bytes.now (audit_said told) },
 }

@@ -2,6 +2,7 @@
 ghost use Rattle.std.specs.Prelude.{◌≡◌, ◌↔◌, All, IfOk, IfSome, IsTrue, map};
 ghost use Rattle.bayou_script.specs.Order.{lines_of};
 ghost use Rattle.bayou_text.specs.Said.{audit_said};
+ghost use Rattle.bayou_text.specs.Table.{Spells};
 ghost use Rattle.bayou_explain.specs.Located.{IsHeldBy, IsOperationAt, StandsIn, tells_entry};
 
 use crate::line::Located;
@@ -54,6 +55,7 @@ fn cut(alloc: Global, text: &[u8]) -> Result<Vec<&[u8]>, AllocError>
 // What a line tells, if it tells something of an audit.
 fn told_in(alloc: Global, at: usize, bytes: &[u8]) -> Result<Option<Located<'_>>, AllocError>
     ensures place { IfOk result (λ found. IfSome found (λ line. (line.at ≡ at) × (line.bytes.now ≡ bytes.now))) }
+    ensures told { IfOk result (λ found. IfSome found (λ line. Spells line.bytes.now (audit_said line.told))) }
 {
     match read_line(alloc, bytes) {
         Ok(Line::Audit(told)) => Ok(Some(Located { at, bytes, told })),

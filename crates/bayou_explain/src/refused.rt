@@ -171,11 +171,7 @@ fn write_cause<'a>(
 }
 
 // Which condition the entry fails, after these lines.
-fn cause_of<'a>(
-    before: &[Located<'a>],
-    lines: &[Located<'a>],
-    entry: &Entry,
-) -> Option<Cause<'a>>
+fn cause_of<'a>(before: &[Located<'a>], lines: &[Located<'a>], entry: &Entry) -> Option<Cause<'a>>
     ensures { MatchOption result (IsBlameless before.now lines.now entry.now) (IsCause before.now lines.now entry.now) }
 {
     if let Some(shown) = not_below(before, entry.session, entry.place) {

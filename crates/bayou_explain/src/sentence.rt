@@ -52,10 +52,7 @@ pub(crate) fn title(alloc: Global, breach: &Breach) -> Result<String, AllocError
 fn earlier(alloc: Global, breach: &Breach) -> Result<String, AllocError>
     ensures { IfOk result (λ text. string_bytes text ≡ earlier_text breach.now) }
 {
-    let (operation, had) = (
-        operation_word(breach.guarantee),
-        had_word(breach.guarantee),
-    );
+    let (operation, had) = (operation_word(breach.guarantee), had_word(breach.guarantee));
     let first = breach.first;
     let (origin, seq) = (breach.wid.origin.index, breach.wid.seq);
     format!(in alloc; "  the {operation} at place {first} {had} {origin}:{seq}")
@@ -72,7 +69,9 @@ fn later(alloc: Global, breach: &Breach) -> Result<String, AllocError>
             format!(in alloc; "server {server} served the read at place {second} without it")
         }
         Guarantee::WritesFollowReads | Guarantee::MonotonicWrites => {
-            format!(in alloc; "server {server} has the Write of place {second} without that one before it")
+            format!(in alloc;
+                "server {server} has the Write of place {second} without that one before it"
+            )
         }
     }
 }
@@ -91,15 +90,18 @@ pub(crate) fn reason(cause: Option<Cause<'_>>) -> &'static str
     ensures { result.now ≡ reason_text cause.entry }
 {
     match cause {
-        Some(Cause::Place(_)) => "  its place isn't above the one of that earlier entry of its session\n",
+        Some(Cause::Place(_)) =>
+            "  its place isn't above the one of that earlier entry of its session\n",
         Some(Cause::Asks(_)) => "  its session asked for something else in that earlier entry\n",
         Some(Cause::Origin) => "  it names a Write that another server accepted\n",
         Some(Cause::Again(_)) => "  that earlier entry names the same Write\n",
         Some(Cause::Lost) => {
             "  its server's dump hasn't the Write that was acknowledged: it was lost, or the dump is older\n"
         }
-        Some(Cause::Differs(_)) => "  its server's dump has that Write with another clock or another past\n",
-        Some(Cause::Database) => "  its server never had the database that the read was served from\n",
+        Some(Cause::Differs(_)) =>
+            "  its server's dump has that Write with another clock or another past\n",
+        Some(Cause::Database) =>
+            "  its server never had the database that the read was served from\n",
         None => "  no line shows which condition it fails\n",
     }
 }

@@ -51,8 +51,16 @@ fn lines_text(alloc: Global, explained: &Explained<'_>) -> Result<String, AllocE
     let wid = explained.breach.wid;
     let (origin, seq) = (wid.origin.index, wid.seq);
     let server = explained.breach.server.index;
-    let earlier = line_text(alloc, format!(in alloc; "place {first}")?.as_str(), explained.first)?;
-    let later = line_text(alloc, format!(in alloc; "place {second}")?.as_str(), explained.second)?;
+    let earlier = line_text(
+        alloc,
+        format!(in alloc; "place {first}")?.as_str(),
+        explained.first,
+    )?;
+    let later = line_text(
+        alloc,
+        format!(in alloc; "place {second}")?.as_str(),
+        explained.second,
+    )?;
     let name = format!(in alloc; "{origin}:{seq} at server {origin}")?;
     let mut text = format!(in alloc; "{earlier}{later}")?;
     text.push_str(line_text(alloc, name.as_str(), explained.write)?.as_str())?;
