@@ -60,12 +60,7 @@ fn put_lines(out: &mut Writer, alloc: Global, bytes: &[u8]) -> Result<(), AllocE
 }
 
 // What is printed, and what is told beside that.
-fn put_said(
-    out: &mut Writer,
-    alloc: Global,
-    printed: &[u8],
-    told: &[u8],
-) -> Result<(), AllocError>
+fn put_said(out: &mut Writer, alloc: Global, printed: &[u8], told: &[u8]) -> Result<(), AllocError>
     ensures put { OnOk result (out.new.tokens ≡ out.old.tokens ++ said_tokens printed.now told.now) }
     ensures before { out.new.before ≡ out.old.before }
 {
