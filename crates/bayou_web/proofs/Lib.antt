@@ -1,2 +1,3 @@
+mod Adding
 mod Apart
 mod Telling

@@ -3,7 +3,7 @@ use Rattle.std.specs.Prelude.{◌≡◌, ℕ, List, [], ◌++◌, Option, Some, 
 use Rattle.form_urlencoded.specs.Form.{DecodesTo}
 use Rattle.bayou_web.specs.declared.asked.TheConstants.{PREFIX}
 
--- of the keys that begin with what stands behind `prefix=`; of all where there is no query
+-- of the keys that begin with what follows `prefix=`; of all where there is no query
 abbrev pub AsksOf : (query : Option (List ℕ)) → (prefix : List ℕ) → Type 0
 AsksOf None prefix = prefix ≡ []
 AsksOf (Some query) prefix = (spelled : List ℕ) × (query ≡ PREFIX.now ++ spelled) × DecodesTo spelled prefix

@@ -1,7 +1,8 @@
 -- What is answered: statuses by RFC 9110, section 15.
-use Rattle.std.specs.Prelude.{◌≡◌, ℕ, ◌≤◌, ◌⊎◌, List, [], Option, Some, None}
+use Rattle.std.specs.Prelude.{ℕ, ◌⊎◌, List, [], ◌∷◌, ◌++◌, Option, Some, None, codes}
+use Rattle.http_server.specs.Response.{IsResponse}
 use Rattle.http_server.specs.declared.response.Response.{Response}
-use Rattle.bayou_web_page.specs.declared.page.TheConstants.{PAGE}
+use Rattle.bayou_web_page.specs.declared.page.TheConstants.{PAGE, POLICY}
 use Rattle.bayou_web.specs.declared.wish.Refusal.{Refusal}
 use Rattle.bayou_web.specs.declared.wish.TheConstants.{ELSEWHERE, MISSING, ONLY_GET, ONLY_POST, UNKNOWN, FOREIGN, MALFORMED}
 use Rattle.bayou_web.specs.declared.wish.Refusal.TheVariants.{Elsewhere, Missing, OnlyGet, OnlyPost, Unknown, Foreign, Malformed}
@@ -24,25 +25,39 @@ text_for Unknown = UNKNOWN.now
 text_for Foreign = FOREIGN.now
 text_for Malformed = MALFORMED.now
 
--- the page, whole
-pub record IsPage (response : Response) : Type 0 where
-  pub status : response.status ≡ 200
-  pub body : response.body.items ≡ PAGE.now
+-- the fields of each response: it ends its connection, is kept nowhere, and is taken for nothing else than it is
+abbrev pub fields_for : (kind : List ℕ) → List (List ℕ × List ℕ)
+fields_for kind = (codes "connection", codes "close") ∷ (codes "cache-control", codes "no-store") ∷ (codes "x-content-type-options", codes "nosniff") ∷ (codes "content-type", kind) ∷ []
 
--- this text
-pub record IsText (text : List ℕ) (response : Response) : Type 0 where
-  pub status : response.status ≡ 200
-  pub body : response.body.items ≡ text
+-- the page tells nobody where it was opened, and a browser holds it to its policy
+abbrev pub page_fields : List (List ℕ × List ℕ)
+page_fields = fields_for (codes "text/html; charset=utf-8") ++ (codes "referrer-policy", codes "no-referrer") ∷ (codes "content-security-policy", POLICY.now) ∷ []
+
+-- by which method it may be asked, where that was why
+abbrev pub allowed_for : Refusal → List (List ℕ × List ℕ)
+allowed_for Elsewhere = []
+allowed_for Missing = []
+allowed_for OnlyGet = (codes "allow", codes "GET") ∷ []
+allowed_for OnlyPost = (codes "allow", codes "POST") ∷ []
+allowed_for Unknown = []
+allowed_for Foreign = []
+allowed_for Malformed = []
+
+-- the page, whole, with its policy
+abbrev pub IsPage : Response → Type 0
+IsPage = IsResponse 200 page_fields PAGE.now
+
+-- this text of JSON
+abbrev pub IsText : (text : List ℕ) → Response → Type 0
+IsText = IsResponse 200 (fields_for (codes "application/json"))
 
 -- a status that says why, and a text that is the same whoever asks
-pub record IsRefusal (refusal : Refusal) (response : Response) : Type 0 where
-  pub status : response.status ≡ status_for refusal
-  pub body : response.body.items ≡ text_for refusal
+abbrev pub IsRefusal : Refusal → Response → Type 0
+IsRefusal refusal = IsResponse (status_for refusal) (fields_for (codes "text/plain; charset=utf-8") ++ allowed_for refusal) (text_for refusal)
 
--- memory ran out behind what was done
-pub record IsFailure (response : Response) : Type 0 where
-  pub status : response.status ≡ 500
-  pub body : response.body.items ≡ []
+-- memory ran out after what was done
+abbrev pub IsFailure : Response → Type 0
+IsFailure = IsResponse 500 [] []
 
 -- the text that was told, if one was, or that there was no memory for it
 abbrev pub Tells : Option (List ℕ) → Response → Type 0

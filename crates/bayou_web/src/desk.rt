@@ -1,4 +1,4 @@
-//! What is behind the pages.
+//! What the pages are about.
 ghost use Rattle.std.specs.Prelude.{ℕ, List, MatchResult, Option, None, Some};
 
 use std::alloc::{AllocError, Global};

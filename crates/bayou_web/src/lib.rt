@@ -3,7 +3,7 @@
 //! A [`Site`] is the service: a [`Door`], which says what a request may want, and a [`Desk`], which shows and does. A request that may ask nothing
 //! leaves the desk as it was (`Answers` in `specs/`). The crate knows nothing of sockets, stores and sessions.
 //!
-//! Callers owe nothing. It isn't promised that memory suffices: where it doesn't before anything was done, the connection ends; behind that, 500 is answered.
+//! Callers owe nothing. It isn't promised that memory suffices: where it doesn't before anything was done, the connection ends; after that, 500 is answered.
 #![tactic(auto)]
 
 pub mod asked;

@@ -1,7 +1,7 @@
 //! The responses.
-ghost use Rattle.std.specs.Prelude.{◌≡◌, ◌≤◌, [], OnOk};
-ghost use Rattle.http_server.specs.Response.{IsBlank};
-ghost use Rattle.bayou_web.specs.Reply.{IsFailure, IsPage, IsRefusal, IsText};
+ghost use Rattle.std.specs.Prelude.{◌≡◌, ◌++◌, [], OnOk, codes};
+ghost use Rattle.http_server.specs.Response.{IsBlank, IsResponse, fields_of};
+ghost use Rattle.bayou_web.specs.Reply.{IsFailure, IsPage, IsRefusal, IsText, fields_for};
 
 use crate::wish::Refusal;
 use bayou_web_page::{PAGE, POLICY};
@@ -16,6 +16,7 @@ use std::alloc::AllocError;
 
 // The fields of each response: it is kept nowhere, and taken for nothing else. One connection has one request.
 fn put_fields(response: &mut Response, kind: HeaderValue) -> Result<(), AllocError>
+    ensures fields { OnOk result (fields_of response.new ≡ fields_of response.old ++ fields_for kind.bytes) }
     ensures status { response.new.status ≡ response.old.status }
     ensures body { response.new.body ≡ response.old.body }
 {
@@ -42,14 +43,14 @@ pub(crate) fn put_page(response: &mut Response) -> Result<(), AllocError>
 /// The fields of a text of JSON, before there is one.
 pub(crate) fn begin_text(response: &mut Response) -> Result<(), AllocError>
     requires { IsBlank response.old }
-    ensures { OnOk result ((response.new.status ≡ 200) × (response.new.body.items ≡ [])) }
+    ensures { OnOk result (IsResponse 200 (fields_for (codes "application/json")) [] response.new) }
 {
     put_fields(response, HeaderValue::from_static("application/json"))
 }
 
-/// The text behind its fields. Where there is no memory for that, nothing but a status says so.
+/// The text after its fields. Where there is no memory for that, nothing but a status says so.
 pub(crate) fn put_text(response: &mut Response, text: Vec<u8>) -> Result<(), AllocError>
-    requires { (response.old.status ≡ 200) × (response.old.body.items ≡ []) }
+    requires { IsResponse 200 (fields_for (codes "application/json")) [] response.old }
     ensures { OnOk result (IsText text.items response.new) }
 {
     response.body.push(Bytes::from_vec(text)?)
@@ -75,7 +76,7 @@ pub(crate) fn refuse(response: &mut Response, refusal: Refusal) -> Result<(), Al
         .push(Bytes::from_static(refusal.text().as_bytes()))
 }
 
-/// Says that memory ran out behind what was done, for which none is needed.
+/// Says that memory ran out after what was done, for which none is needed.
 pub(crate) fn fail(response: &mut Response)
     ensures { IsFailure response.new }
 {

@@ -1,6 +1,7 @@
 //! The service.
-ghost use Rattle.std.specs.Prelude.{◌≡◌, [], MatchResult, None, Some};
-ghost use Rattle.bayou_web.specs.Reply.{Tells};
+ghost use Rattle.std.specs.Prelude.{◌≡◌, [], MatchResult, None, Some, codes};
+ghost use Rattle.http_server.specs.Response.{IsResponse};
+ghost use Rattle.bayou_web.specs.Reply.{Tells, fields_for};
 
 use crate::asked::prefix_of;
 use crate::body::{BodyFault, line_of};
@@ -23,7 +24,7 @@ pub struct Site<D: Drop> {
 
 // Puts the text that was told, or else says that there was no memory for it.
 fn tell(response: &mut Response, told: Result<Vec<u8>, AllocError>)
-    requires { (response.old.status ≡ 200) × (response.old.body.items ≡ []) }
+    requires { IsResponse 200 (fields_for (codes "application/json")) [] response.old }
     ensures { MatchResult told (λ text. Tells (Some text.items) response.new) (λ _. Tells None response.new) }
 {
     let is_told = match told {

@@ -130,6 +130,13 @@ impl<T: Files<File = File> + Sockets + Wait + Clock> Looking<'_, T> {
         Ok(self.show_rows(seen, rows)?)
     }
 
+    // What is seen after a line: what it made is its own.
+    fn show_done(&self, line: &str) -> Result<(), AllocError> {
+        let mut shown = self.hall.shown.lock(self.rt);
+        let seen = shown.changed();
+        self.show_own(seen, Some(line))
+    }
+
     /// Does a line that was handed in, and tells what became of it.
     pub(crate) fn do_line(&mut self, line: &str) -> Result<Vec<u8>, ConnectFault> {
         let (mut printed, mut told) = (Vec::new(self.alloc), Vec::new(self.alloc));
@@ -138,7 +145,7 @@ impl<T: Files<File = File> + Sockets + Wait + Clock> Looking<'_, T> {
             .desk
             .do_line(self.rt, line.as_bytes(), &mut output, &mut told)?;
         drop(output);
-        self.show_own(self.hall.shown.lock(self.rt).changed(), Some(line))?;
+        self.show_done(line)?;
         let status = status_of(ended);
         let done = Done {
             printed: &printed,

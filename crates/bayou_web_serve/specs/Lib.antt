@@ -1,1 +1,4 @@
+pub mod Address
+pub mod Lines
 pub mod Names
+pub mod Shows

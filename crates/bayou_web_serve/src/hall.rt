@@ -1,6 +1,10 @@
 //! What the threads that serve connections share, and a desk that stands for it.
 
-ghost use Rattle.std.specs.Prelude.{◌≡◌};
+ghost use Rattle.std.specs.Prelude.{◌≡◌, ◌↔◌, [], IfOk, IsTrue, None};
+ghost use Rattle.std.specs.Option.{ForSome};
+ghost use Rattle.bayou_web_serve.specs.Lines.{IsLine};
+ghost use Rattle.bayou_web_state.specs.Done.{IsDone};
+ghost use Rattle.bayou_web_serve.specs.Shows.{IsShown};
 
 use crate::counter::{Counter, NotDone};
 use crate::serving::{Habits, serve_stream};
@@ -21,7 +25,7 @@ use std::time::{Clock, Duration};
 const PAUSE_MILLISECONDS: u64 = 200;
 
 /// What is told of a line that is no line.
-const NO_LINE: &str = "bayou: one line at a time, and none that is longer than a line may be\n";
+pub const NO_LINE: &str = "bayou: one line at a time, and none that is longer than a line may be\n";
 
 /// What is told where others wait.
 const BUSY: &str = "bayou: other lines are being done; ask again\n";
@@ -40,6 +44,7 @@ const FAILED: u8 = 3;
 pub struct Shown {
     seen: Seen,
     text: Option<Vec<u8>>,
+    ghost shown: { ForSome text (λ text. IsShown [] seen text.items) },
 }
 
 impl Shown {
@@ -51,15 +56,21 @@ impl Shown {
     }
 
     /// What is seen, to be changed.
-    pub fn changed(&mut self) -> &mut Seen {
+    pub fn changed(&mut self) -> &mut Seen
+        ensures { result.now ≡ self.old.seen }
+    {
         self.text = None;
         &mut self.seen
     }
 
     // The text that tells all of it.
-    fn whole(&mut self, alloc: Global) -> Result<Vec<u8>, AllocError> {
+    fn whole(&mut self, alloc: Global) -> Result<Vec<u8>, AllocError>
+        ensures shown { IfOk result (λ text. IsShown [] self.old.seen text.items) }
+        ensures seen { self.new.seen ≡ self.old.seen }
+    {
         if let Some(text) = &self.text {
-            return Vec::from_slice(alloc, text);
+            let text = Vec::from_slice(alloc, text)?;
+            return Ok(text);
         }
         let text = self.seen.text(alloc, "")?;
         self.text = Some(Vec::from_slice(alloc, &text)?);
@@ -67,7 +78,10 @@ impl Shown {
     }
 
     // The text that tells what is seen of the keys that begin so.
-    fn text(&mut self, alloc: Global, prefix: &str) -> Result<Vec<u8>, AllocError> {
+    fn text(&mut self, alloc: Global, prefix: &str) -> Result<Vec<u8>, AllocError>
+        ensures shown { IfOk result (λ text. IsShown prefix.now self.old.seen text.items) }
+        ensures seen { self.new.seen ≡ self.old.seen }
+    {
         if prefix.is_empty() {
             self.whole(alloc)
         } else {
@@ -116,7 +130,9 @@ impl<'a, T> AtCounter<'a, T> {
 }
 
 // What is told of a line that wasn't done.
-fn not_done(alloc: Global, told: &str, status: u8) -> Result<Vec<u8>, AllocError> {
+fn not_done(alloc: Global, told: &str, status: u8) -> Result<Vec<u8>, AllocError>
+    ensures { IfOk result (λ text. IsDone [] told.now status text.items) }
+{
     let told = told.as_bytes();
     let printed = &[];
     done_text(
@@ -130,26 +146,33 @@ fn not_done(alloc: Global, told: &str, status: u8) -> Result<Vec<u8>, AllocError
 }
 
 // Whether it is one line, and none that is too long.
-fn is_line(line: &str) -> bool {
+fn is_line(line: &str) -> bool
+    ensures { IsTrue result ↔ IsLine line.now }
+{
     line.len() <= MAX_LINE_BYTES && !line.as_bytes().contains(&b'\n')
 }
 
 impl<T: Wait + Clock> Desk for AtCounter<'_, T> {
-    // What others did at the counter meanwhile no clause can say.
-    ghost shows = { λ _ _ _ _. Unit {0} };
+    ghost use Rattle.bayou_web_serve.specs.Lines.{IsLine, TellsNoLine};
+    ghost use Rattle.bayou_web_serve.specs.Shows.{ShowsSome};
 
-    ghost does = { λ _ _ _ _. Unit {0} };
+    // What is seen, and what became of a line, others told under a lock: that it is the last, or of this line, no clause can say.
+    ghost shows = { λ old prefix text new. (new ≡ old) × ShowsSome prefix text };
+
+    ghost does = { λ old line text new. (new ≡ old) × (¬ (IsLine line) → TellsNoLine text) };
 
     fn show(&mut self, alloc: Global, prefix: &str) -> Result<Vec<u8>, AllocError> {
         self.hall
             .looked
             .store(milliseconds(self.rt), Ordering::SeqCst);
-        self.hall.shown.lock(self.rt).text(alloc, prefix)
+        let text = self.hall.shown.lock(self.rt).text(alloc, prefix)?;
+        Ok(text)
     }
 
     fn act(&mut self, alloc: Global, line: &str) -> Result<Vec<u8>, AllocError> {
         if !is_line(line) {
-            return not_done(alloc, NO_LINE, REFUSED);
+            let text = not_done(alloc, NO_LINE, REFUSED)?;
+            return Ok(text);
         }
         match self.hall.counter.ask(self.rt, line.to_string(alloc)?) {
             Ok(text) => Ok(text),

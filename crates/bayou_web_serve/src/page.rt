@@ -1,6 +1,8 @@
 //! Where a page is served, and as whom a person claims.
-ghost use Rattle.std.specs.Prelude.{◌≡◌, ◌<◌, All, IfOk, IfSome, option_map, string_bytes, true};
+ghost use Rattle.std.specs.Prelude.{◌≡◌, ◌<◌, ◌↔◌, All, Err, IfOk, IfSome, IsSomeAnd, IsTrue, MatchOption, option_map, string_bytes};
+ghost use Rattle.bayou_web_serve.specs.Address.{SaysLoopback, SaysNoLoopback};
 ghost use Rattle.bayou_web_serve.specs.Names.{IsName};
+ghost use Rattle.bayou_web_serve.specs.declared.page.PageFault.TheVariants.{NoName, NotLoopback};
 
 use std::alloc::{AllocError, Global};
 use std::net::SocketAddr;
@@ -40,8 +42,12 @@ impl From<AllocError> for PageFault {
 }
 
 // The loopback address that the word says, if it says one.
-fn loopback_in(word: &str) -> Option<SocketAddr> {
-    let address = word.parse::<SocketAddr>().ok()?;
+fn loopback_in(word: &str) -> Option<SocketAddr>
+    ensures { MatchOption result (SaysNoLoopback word.now) (SaysLoopback word.now) }
+{
+    let Ok(address) = word.parse::<SocketAddr>() else {
+        return None;
+    };
     if address.ip().is_loopback() {
         Some(address)
     } else {
@@ -51,14 +57,14 @@ fn loopback_in(word: &str) -> Option<SocketAddr> {
 
 // Whether none of the bytes is a space, or one that moves a cursor.
 fn has_no_blank(bytes: &[u8]) -> bool
-    ensures { result ≡ true → All (λ byte. 32 < byte) bytes.now }
+    ensures { IsTrue result ↔ All (λ byte. 32 < byte) bytes.now }
 {
     bytes.iter().all(|byte| *byte > b' ')
 }
 
 // Whether a claim can be made under the name: it is a value of one word.
 fn is_name(name: &str) -> bool
-    ensures { result ≡ true → IsName name.now }
+    ensures { IsTrue result ↔ IsName name.now }
 {
     !name.is_empty() && name.len() <= MAX_NAME_BYTES && has_no_blank(name.as_bytes())
 }
@@ -66,8 +72,11 @@ fn is_name(name: &str) -> bool
 impl Page {
     /// The page that these words ask for.
     pub fn new(alloc: Global, listen: &str, name: Option<&str>) -> Result<Self, PageFault>
+        ensures listen { IfOk result (λ page. SaysLoopback listen.now page.listen) }
         ensures name { IfOk result (λ page. option_map (λ text. string_bytes text) page.name ≡ option_map (λ text. text.now) name.entry) }
         ensures bounded { IfOk result (λ page. IfSome page.name (λ text. IsName (string_bytes text))) }
+        ensures not_loopback { result ≡ Err NotLoopback → SaysNoLoopback listen.now }
+        ensures no_name { result ≡ Err NoName → IsSomeAnd name.entry (λ text. ¬ (IsName text.now)) }
     {
         let Some(listen) = loopback_in(listen) else {
             return Err(PageFault::NotLoopback);

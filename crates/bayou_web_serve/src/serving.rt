@@ -29,7 +29,7 @@ const WHOLE_MILLISECONDS: u64 = 3_000;
 /// How many bytes the body of a request has at the most: a line as long as one may be, and the JSON around it.
 const MAX_REQUEST_BYTES: usize = 2 * MAX_LINE_BYTES;
 
-/// For how long what still comes behind the last response is dropped.
+/// For how long what still comes after the last response is dropped.
 const LINGER: Limit = Limit {
     idle: 200,
     whole: 500,
@@ -44,7 +44,10 @@ pub struct Habits {
 
 impl Habits {
     /// A line is short, and so is what a browser says of itself.
-    pub fn usual() -> Self {
+    pub fn usual() -> Self
+        ensures limit { result.limit ≡ record { idle = IDLE_MILLISECONDS; whole = WHOLE_MILLISECONDS } }
+        ensures body { result.config.max_body_len ≡ MAX_REQUEST_BYTES }
+    {
         let config = Config::default();
         Habits {
             limit: Limit {
@@ -67,6 +70,7 @@ pub fn serve_site<D: Desk + Drop, R: Read, W: Write>(
     writer: &mut W,
 ) -> io::Result<()>
     requires fresh { (history connection.old).calls ≡ [] }
+    ensures door { site.new.door ≡ site.old.door }
     // A connection of which no request may ask anything leaves the desk as it was.
     ensures kept { All (λ call. MayAskNothing site.old.door (head_of call.0)) (history connection.new).calls → site.new.desk ≡ site.old.desk }
     ensures done { OnOk result (IsDone (history connection.new)) }
@@ -87,7 +91,9 @@ pub fn serve_over<D: Desk + Drop, C: Clock, R: Read + Drop, W: Write + Drop>(
     site: &mut Site<D>,
     reader: R,
     writer: W,
-) -> io::Result<()> {
+) -> io::Result<()>
+    ensures { site.new.door ≡ site.old.door }
+{
     let mut reader = Timed::new(reader, clock, habits.limit);
     let mut writer = Timed::new(writer, clock, habits.limit);
     let mut connection = Connection::new(alloc, keys, habits.config);
@@ -121,7 +127,9 @@ pub fn serve_stream<D: Desk + Drop, C: Clock>(
     habits: Habits,
     site: &mut Site<D>,
     stream: TcpStream,
-) {
+)
+    ensures { site.new.door ≡ site.old.door }
+{
     if !is_timed(&stream) {
         return;
     }

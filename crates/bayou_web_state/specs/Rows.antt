@@ -1,5 +1,5 @@
 -- The JSON of rows (RFC 8259): this project's own form.
-use Rattle.std.specs.Prelude.{◌≡◌, ℕ, Bool, List, [], ◌∷◌, ◌++◌, Option, Some, None, codes, flat_map, if◌then◌else◌, nat_eq}
+use Rattle.std.specs.Prelude.{ℕ, Bool, List, [], ◌∷◌, ◌++◌, Option, Some, None, codes, flat_map, if◌then◌else◌, nat_eq}
 use Rattle.std.specs.Fmt.{signed_decimal}
 use Rattle.std.specs.List.{starts_with}
 use Rattle.bayou_base.specs.declared.value.Value.{Value}
@@ -7,8 +7,7 @@ use Rattle.bayou_base.specs.declared.value.Value.TheVariants.{Num, Text}
 use Rattle.bayou_final.specs.Standing.{standing_word}
 use Rattle.bayou_final.specs.declared.standing.Standing.{Standing}
 use Rattle.bayou_web_state.specs.declared.row.Row.{Row}
-use Rattle.json.specs.Lex.{tokens}
-use Rattle.json.specs.Token.{Token, begin_object, end_array, end_object, key, string, null}
+use Rattle.json.specs.Token.{Token, begin_object, end_object, key, string, null}
 
 abbrev pub begins_with : (prefix name : List ℕ) → Bool
 begins_with prefix name = starts_with nat_eq name prefix
@@ -33,8 +32,3 @@ asked_tokens prefix row = if begins_with prefix row.key then row_tokens row else
 -- each row whose key begins so, in order
 abbrev pub rows_tokens : (prefix : List ℕ) → List Row → List Token
 rows_tokens prefix rows = flat_map (asked_tokens prefix) rows
-
--- a text tells the rows whose keys begin so, as the last member of an object
-pub record Spells (prefix : List ℕ) (rows : List Row) (text : List ℕ) : Type 0 where
-  pub head : List Token
-  pub whole : tokens text ≡ head ++ (rows_tokens prefix rows ++ end_array ∷ end_object ∷ [])

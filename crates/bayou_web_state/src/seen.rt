@@ -1,11 +1,13 @@
 //! What is seen of a store.
-ghost use Rattle.std.specs.Prelude.{◌≡◌, ◌≤◌, ◌++◌, ◌∷◌, [], false, true, IfOk, List, OnOk, Some, map};
-ghost use Rattle.json.specs.Token.{Token, end_array, end_object};
-ghost use Rattle.bayou_web_state.specs.Rows.{Spells, rows_tokens};
+ghost use Rattle.std.specs.Prelude.{◌≡◌, ◌≤◌, ◌++◌, ◌∷◌, [], ◌<◌, false, true, Any, IfOk, IfSome, None, OnOk, Some, length, map};
+ghost use Rattle.bayou_web_state.specs.Asked.{IsAsked};
+ghost use Rattle.bayou_web_state.specs.Notes.{Notes, kept_notices};
 ghost use Rattle.bayou_web_state.specs.declared.seen.Own.{Own as OwnOne};
 ghost use Rattle.bayou_base.specs.declared.limits.TheConstants.{SERVERS as NUMBER};
 
-use crate::parts::{put_all_own, put_notices, put_servers, put_session, put_text, put_vector};
+use crate::parts::{
+    name_of, put_all_own, put_flag, put_notices, put_servers, put_session, put_text, put_told,
+};
 use crate::row::Row;
 use crate::rows::put_rows;
 use bayou_base::{Asks, ServerId, Vector, Wid};
@@ -15,7 +17,7 @@ use std::alloc::{AllocError, Global};
 use std::net::SocketAddr;
 
 /// How many notices are kept at the most. One more, and the oldest goes.
-const MAX_NOTICES: usize = 64;
+pub const MAX_NOTICES: usize = 64;
 
 /// A server, as it was asked last.
 #[derive(Clone, Copy, Debug)]
@@ -32,8 +34,8 @@ pub struct ServerSeen {
 
 impl ServerSeen {
     // As it is now; what it held, and may hold, as it told last.
-    fn behind(self, before: &ServerSeen) -> ServerSeen
-        ensures { (result.id ≡ self.id) × (result.is_up ≡ self.is_up) }
+    fn after(self, before: &ServerSeen) -> ServerSeen
+        ensures { (result.id ≡ self.id) × (result.address ≡ self.address) × (result.is_up ≡ self.is_up) }
     {
         ServerSeen {
             view: self.view.or(before.view),
@@ -105,10 +107,14 @@ pub struct Seen {
 }
 
 impl Seen {
+    ghost use Rattle.bayou_web_state.specs.Seen.{Shows, head_tokens, person_tokens, seen_tokens, store_tokens, table_tokens};
+
     /// Nothing was seen yet.
     pub fn new(alloc: Global, servers_number: u8, name: Option<String>) -> Self
         requires { servers_number ≤ NUMBER }
-        ensures { (result.servers_number ≡ servers_number) × (result.rows.items ≡ []) × (result.notices.items ≡ []) × (result.is_current ≡ false) }
+        ensures person { (result.servers_number ≡ servers_number) × (result.name ≡ name) }
+        ensures rows { (result.rows.items ≡ []) × (result.told ≡ None) × (result.is_current ≡ false) }
+        ensures rest { (result.servers.items ≡ []) × (result.own.items ≡ []) × (result.session ≡ None) × (result.notices.items ≡ []) × (result.noticed ≡ 0) }
     {
         Seen {
             servers_number,
@@ -167,7 +173,7 @@ impl Seen {
         line: Option<&str>,
     ) -> Result<(), AllocError>
         ensures own { OnOk result (map (λ (one : OwnOne). one.write) self.new.own.items ≡ own.now) }
-        ensures same { (self.new.rows ≡ self.old.rows) × (self.new.is_current ≡ self.old.is_current) }
+        ensures same { self.new ≡ record self.old { own = self.new.own } }
     {
         let mut now = Vec::with_capacity(alloc, own.len())?;
         for write in own {
@@ -184,7 +190,14 @@ impl Seen {
         Ok(())
     }
 
-    /// The server told this as it was asked last, or nothing.
+    // The place of the server, if it was asked before.
+    fn place_of(&self, id: ServerId) -> Option<usize>
+        ensures { IfSome result (λ at. at < length self.now.servers.items) }
+    {
+        self.servers.iter().position(|server| server.id == id)
+    }
+
+    /// The server told this as it was asked last, or nothing. What it held, and may hold, stays as it told last.
     pub fn server_now(
         &mut self,
         id: ServerId,
@@ -192,7 +205,8 @@ impl Seen {
         view: Option<Vector>,
         limit: Option<u32>,
     ) -> Result<(), AllocError>
-        ensures same { (self.new.rows ≡ self.old.rows) × (self.new.own ≡ self.old.own) × (self.new.is_current ≡ self.old.is_current) }
+        ensures told { OnOk result (Any (IsAsked id address view) self.new.servers.items) }
+        ensures same { self.new ≡ record self.old { servers = self.new.servers } }
     {
         let now = ServerSeen {
             id,
@@ -201,12 +215,11 @@ impl Seen {
             view,
             limit,
         };
-        match self.servers.iter().position(|server| server.id == id) {
+        match self.place_of(id) {
             None => self.servers.push(now)?,
             Some(at) => {
-                if let Some(server) = self.servers.get_mut(at) {
-                    *server = now.behind(server);
-                }
+                let before = self.servers[at];
+                self.servers[at] = now.after(&before);
             }
         }
         Ok(())
@@ -218,8 +231,7 @@ impl Seen {
             return Ok(None);
         };
         for own in &self.own {
-            let (origin, seq) = (own.write.wid.origin.index, own.write.wid.seq);
-            let written = format!(in alloc; "{origin}:{seq}")?;
+            let written = name_of(alloc, own.write.wid)?;
             if written.as_str() == name {
                 return kept_text(alloc, own.line.as_deref());
             }
@@ -227,15 +239,24 @@ impl Seen {
         Ok(None)
     }
 
-    /// One more notice, the last of so many.
-    pub fn note(&mut self, alloc: Global, text: &str) -> Result<(), AllocError>
-        ensures same { (self.new.rows ≡ self.old.rows) × (self.new.own ≡ self.old.own) × (self.new.is_current ≡ self.old.is_current) }
+    // Makes room for one more notice: where there are as many as are kept, the oldest goes.
+    fn make_room(&mut self)
+        ensures room { self.new.notices.items ≡ kept_notices self.old.notices.items }
+        ensures same { self.new ≡ record self.old { notices = self.new.notices } }
     {
-        let line = self.line_named(alloc, text)?;
-        let text = text.to_string(alloc)?;
         if self.notices.len() >= MAX_NOTICES {
             self.notices.remove(0);
         }
+    }
+
+    /// One more notice, the last of so many.
+    pub fn note(&mut self, alloc: Global, text: &str) -> Result<(), AllocError>
+        ensures noted { OnOk result (Notes self.old.notices.items self.new.notices.items self.new.noticed text.now) }
+        ensures same { self.new ≡ record self.old { notices = self.new.notices; noticed = self.new.noticed } }
+    {
+        let line = self.line_named(alloc, text)?;
+        let text = text.to_string(alloc)?;
+        self.make_room();
         self.noticed = self.noticed.saturating_add(1);
         let number = self.noticed;
         self.notices.push(Notice { number, text, line })?;
@@ -244,56 +265,66 @@ impl Seen {
 
     // As whom the person claims, and of what the rows are.
     fn put_head(&self, out: &mut Writer) -> Result<(), AllocError>
-        ensures { out.new.before ≡ out.old.before }
+        ensures put { OnOk result (out.new.tokens ≡ out.old.tokens ++ head_tokens self.now) }
+        ensures before { out.new.before ≡ out.old.before }
     {
-        out.key("name")?;
-        put_text(out, self.name.as_deref())?;
-        out.key("current")?;
-        out.boolean(self.is_current)?;
-        out.key("server")?;
-        match &self.told {
-            Some((server, _)) => out.u64(u64::from(server.index))?,
-            None => out.null()?,
-        }
-        out.key("at")?;
-        match &self.told {
-            Some((_, vector)) => put_vector(out, vector, self.servers_number),
-            None => out.null(),
-        }
+        put_text(out, "name", &self.name)?;
+        put_flag(out, "current", self.is_current)?;
+        put_told(out, &self.told, self.servers_number)
     }
 
-    // What is told beside the rows.
-    fn put_rest(&self, out: &mut Writer, alloc: Global) -> Result<(), AllocError>
-        ensures { out.new.before ≡ out.old.before }
+    // The servers, and the own Writes.
+    #[tactic(auto, unfolding(crate::specs::Seen::store_tokens))]
+    fn put_store(&self, out: &mut Writer, alloc: Global) -> Result<(), AllocError>
+        ensures put { OnOk result (out.new.tokens ≡ out.old.tokens ++ store_tokens self.now) }
+        ensures before { out.new.before ≡ out.old.before }
     {
         out.key("servers")?;
         put_servers(out, alloc, &self.servers, self.servers_number)?;
         out.key("own")?;
-        put_all_own(out, alloc, &self.own)?;
+        put_all_own(out, alloc, &self.own)
+    }
+
+    // The session, and the notices.
+    #[tactic(auto, unfolding(crate::specs::Seen::person_tokens))]
+    fn put_person(&self, out: &mut Writer) -> Result<(), AllocError>
+        ensures put { OnOk result (out.new.tokens ≡ out.old.tokens ++ person_tokens self.now) }
+        ensures before { out.new.before ≡ out.old.before }
+    {
         out.key("session")?;
         put_session(out, &self.session, self.servers_number)?;
         out.key("notices")?;
         put_notices(out, &self.notices)
     }
 
+    // The rows whose keys begin so.
+    #[tactic(auto, unfolding(crate::specs::Seen::table_tokens))]
+    fn put_table(&self, out: &mut Writer, prefix: &str) -> Result<(), AllocError>
+        ensures put { OnOk result (out.new.tokens ≡ out.old.tokens ++ table_tokens prefix.now self.now) }
+        ensures before { out.new.before ≡ out.old.before }
+    {
+        out.key("rows")?;
+        out.begin_array()?;
+        put_rows(out, prefix, &self.rows)?;
+        out.end_array()
+    }
+
     // What is seen, with the rows whose keys begin so at its end.
     fn put_all(&self, out: &mut Writer, alloc: Global, prefix: &str) -> Result<(), AllocError>
-        ensures put { OnOk result ((head : List Token) × (out.new.tokens ≡ head ++ (rows_tokens prefix.now self.now.rows.items ++ end_array ∷ end_object ∷ []))) }
+        ensures put { OnOk result (out.new.tokens ≡ out.old.tokens ++ seen_tokens prefix.now self.now) }
         ensures before { out.new.before ≡ out.old.before }
     {
         out.begin_object()?;
         self.put_head(out)?;
-        self.put_rest(out, alloc)?;
-        out.key("rows")?;
-        out.begin_array()?;
-        put_rows(out, prefix, &self.rows)?;
-        out.end_array()?;
+        self.put_store(out, alloc)?;
+        self.put_person(out)?;
+        self.put_table(out, prefix)?;
         out.end_object()
     }
 
     /// The text of JSON that tells what is seen, with the rows whose keys begin so.
     pub fn text(&self, alloc: Global, prefix: &str) -> Result<Vec<u8>, AllocError>
-        ensures { IfOk result (λ text. Spells prefix.now self.now.rows.items text.items) }
+        ensures { IfOk result (λ text. Shows prefix.now self.now text.items) }
     {
         let mut out = Writer::new(Vec::new(alloc));
         self.put_all(&mut out, alloc, prefix)?;
