@@ -1,5 +1,6 @@
 pub mod Asked
 pub mod Audited
+pub mod Explaining
 pub mod Lent
 pub mod Nets
 pub mod Planned
