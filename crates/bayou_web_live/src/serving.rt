@@ -74,17 +74,16 @@ fn do_next<T: Files<File = File> + Sockets + Wait + Clock>(
     looking: &mut Looking<'_, T>,
     line: String,
 ) -> Result<(), ConnectFault> {
-    let done = looking.do_line(line.as_str());
-    match done {
+    let (rt, alloc, hall) = (looking.rt, looking.alloc, looking.hall);
+    let fault = match looking.do_line(line.as_str()) {
         Ok(text) => {
-            looking.hall.counter.answer(looking.rt, text);
-            Ok(())
+            hall.counter.answer(rt, text);
+            return Ok(());
         }
-        Err(fault) => {
-            answer_fault(looking.rt, looking.alloc, looking.hall, fault);
-            Err(fault)
-        }
-    }
+        Err(fault) => fault,
+    };
+    answer_fault(rt, alloc, hall, &fault);
+    Err(fault)
 }
 
 // Does each line that is handed in, and asks servers as long as somebody looks, until the desk is at fault.
@@ -116,7 +115,7 @@ fn attend_desk<T: Files<File = File> + Sockets + Wait + Clock>(
 }
 
 // Tells whoever handed in the last line that the desk is at fault, as far as there is memory for that.
-fn answer_fault<T: Wait>(rt: &T, alloc: Global, hall: &Hall, fault: ConnectFault) {
+fn answer_fault<T: Wait>(rt: &T, alloc: Global, hall: &Hall, fault: &ConnectFault) {
     let Ok(told) = format!(in alloc; "bayou: {fault}\n") else {
         return;
     };
@@ -169,8 +168,8 @@ where
         let _ = shut(copy);
         fault
     });
-    match ended {
-        Ok((_, fault)) => fault,
+    match &ended {
+        Ok((_, fault)) => *fault,
         Err(_) => WebFault::Memory,
     }
 }
