@@ -9,8 +9,8 @@ mod progress;
 
 use bayou_connect::Input;
 use bayou_shell::{
-    Errand, Files, refuse_words, run_checked, run_connected, run_explained, run_exported, run_imported, run_key,
-    run_main, run_net, run_renewed, run_served, run_web, tell_device,
+    Errand, Files, refuse_words, run_checked, run_connected, run_explained, run_exported,
+    run_imported, run_key, run_main, run_net, run_renewed, run_served, run_web, tell_device,
 };
 use bayou_streams::{CountedChannel, Output};
 use more::{More, tell_more};

@@ -1,2 +1,5 @@
+mod Causes
 mod Each
 pub mod Found
+mod Stamps
+mod Standing

@@ -26,7 +26,7 @@ bad_dump_text server place = codes "the Write at place " ++ (decimal place ++ (c
 
 -- and the one that it ends with
 abbrev pub misfit_text : List ℕ
-misfit_text = codes "  " ++ (MISFIT.now ++ codes "\n")
+misfit_text = MISFIT.now
 
 -- a text of the entry of this number, or none where there is no such entry
 pub data TellsForged (lines : List Located) (number : ℕ) (text : List ℕ) : Type 0 where

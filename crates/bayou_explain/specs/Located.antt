@@ -1,9 +1,14 @@
 -- Which lines tell what.
-use Rattle.std.specs.Prelude.{◌≡◌, ℕ, Bool, true, false, List, Some, slice_get}
+use Rattle.std.specs.Prelude.{◌≡◌, ℕ, Bool, true, false, List, Some, map, slice_get}
+use Rattle.std.specs.Borrow.{Bor}
 use Rattle.bayou_base.specs.declared.wid.Wid.{Wid}
 use Rattle.bayou_text.specs.Said.{Said, audit_said, entry, held}
 use Rattle.bayou_text.specs.Table.{Spells}
 use Rattle.bayou_explain.specs.declared.line.Located.{Located}
+
+-- the bytes of lines
+abbrev pub bytes_of : List (Bor (List ℕ)) → List (List ℕ)
+bytes_of lines = map (λ line. line.now) lines
 
 -- the line stands at its place among these, and spells what it is said to tell
 abbrev pub StandsIn : List (List ℕ) → Located → Type 0

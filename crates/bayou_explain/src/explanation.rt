@@ -14,7 +14,7 @@ use std::alloc::{AllocError, Global};
 
 /// What is wrong with a Write that can't stand in a dump.
 const MISFIT: &str =
-    "it doesn't follow from those before it, or a smaller server has another Write of its name (docs/AUDIT.md)";
+    "  it doesn't follow from those before it, or a smaller server has another Write of its name (docs/AUDIT.md)\n";
 
 /// Each breach of the survey as it is told, one after another; nothing where there is none.
 pub fn explanation_text(
@@ -33,6 +33,14 @@ pub fn explanation_text(
     Ok(text)
 }
 
+// The line that a bad dump's explanation begins with.
+fn dump_title(alloc: Global, server: ServerId, place: usize) -> Result<String, AllocError>
+    ensures { IfOk result (λ text. string_bytes text ≡ bad_dump_text server.index place) }
+{
+    let server = server.index;
+    format!(in alloc; "the Write at place {place} of server {server}'s dump can't be there\n")
+}
+
 // Of the first Write at which the server's dump can't be true: its line.
 fn dump_text(
     alloc: Global,
@@ -42,9 +50,9 @@ fn dump_text(
 ) -> Result<String, AllocError>
     ensures { IfOk result (λ text. (line : List ℕ) × (string_bytes text ≡ bad_dump_text server.index place ++ (line ++ misfit_text))) }
 {
+    let title = dump_title(alloc, server, place)?;
     let line = line_text(alloc, "the Write", held_at(lines, server, place))?;
-    let server = server.index;
-    format!(in alloc; "the Write at place {place} of server {server}'s dump can't be there\n{line}  {MISFIT}\n")
+    format!(in alloc; "{title}{line}{MISFIT}")
 }
 
 /// Why the verdict is refused: which condition an entry fails, or where a dump can't be true. It is empty where the lines aren't those of the evidence.

@@ -1,9 +1,9 @@
 //! The lines of an audit file that tell something, each with its place: which they are, and which of them tell what.
-ghost use Rattle.std.specs.Prelude.{◌≡◌, ◌↔◌, All, IfOk, IfSome, IsTrue, map};
+ghost use Rattle.std.specs.Prelude.{◌≡◌, ◌↔◌, ◌<◌, All, IfOk, IfSome, IsTrue, OnOk, length};
 ghost use Rattle.bayou_script.specs.Order.{lines_of};
 ghost use Rattle.bayou_text.specs.Said.{audit_said};
 ghost use Rattle.bayou_text.specs.Table.{Spells};
-ghost use Rattle.bayou_explain.specs.Located.{IsHeldBy, IsOperationAt, StandsIn, tells_entry};
+ghost use Rattle.bayou_explain.specs.Located.{IsHeldBy, IsOperationAt, StandsIn, bytes_of, tells_entry};
 
 use crate::line::Located;
 use bayou_base::{ServerId, SessionId, Wid};
@@ -47,7 +47,7 @@ impl<'a> Located<'a> {
 
 // The lines of a text, without their line feeds.
 fn cut(alloc: Global, text: &[u8]) -> Result<Vec<&[u8]>, AllocError>
-    ensures { IfOk result (λ lines. map (λ line. line.now) lines.items ≡ lines_of text.now) }
+    ensures { IfOk result (λ lines. bytes_of lines.items ≡ lines_of text.now) }
 {
     text.split(|byte| *byte == b'\n').collect(alloc)
 }
@@ -64,16 +64,31 @@ fn told_in(alloc: Global, at: usize, bytes: &[u8]) -> Result<Option<Located<'_>>
     }
 }
 
+// Adds the line at this place, if it tells something of an audit.
+fn add<'a>(
+    alloc: Global,
+    lines: &[&'a [u8]],
+    list: &mut Vec<Located<'a>>,
+    at: usize,
+) -> Result<(), AllocError>
+    requires { at < length lines.now }
+    ensures { All (StandsIn (bytes_of lines.now)) list.old.items → OnOk result (All (StandsIn (bytes_of lines.now)) list.new.items) }
+{
+    let bytes: &'a [u8] = lines[at];
+    if let Some(line) = told_in(alloc, at, bytes)? {
+        list.push(line)?;
+    }
+    Ok(())
+}
+
 /// The lines of a text that tell an entry or a Write that is held, in their order.
 pub fn locate(alloc: Global, text: &[u8]) -> Result<Vec<Located<'_>>, AllocError>
     ensures { IfOk result (λ list. All (StandsIn (lines_of text.now)) list.items) }
 {
     let lines = cut(alloc, text)?;
     let mut list = Vec::new(alloc);
-    for (at, bytes) in lines.iter().enumerate() {
-        if let Some(line) = told_in(alloc, at, bytes)? {
-            list.push(line)?;
-        }
+    for at in 0..lines.len() {
+        add(alloc, &lines, &mut list, at)?;
     }
     Ok(list)
 }

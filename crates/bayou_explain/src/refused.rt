@@ -10,6 +10,7 @@ ghost use Rattle.bayou_explain.specs.Refused.{AsksOther, IsBlameless, IsCause, I
 use crate::explained::{Shown, held, shown_as};
 use crate::line::Located;
 use bayou_base::{Asks, Entry, ServerId, SessionId, Stamp, Vector, What, Wid};
+use bayou_lang::RestingWrite;
 use bayou_text::AuditLine;
 
 /// Which condition an entry fails.
@@ -68,6 +69,13 @@ fn names(line: &Located<'_>, wid: Wid) -> bool
     }
 }
 
+// Whether the Write has this stamp and this past.
+fn is_same(write: &RestingWrite, stamp: Stamp, deps: &Vector) -> bool
+    ensures { IsTrue result ↔ ((write.now.stamp ≡ stamp) × (write.now.deps ≡ deps.now)) }
+{
+    write.stamp() == stamp && write.deps() == deps
+}
+
 // Whether the line says that the server holds the Write with another stamp or another past.
 fn is_held_otherwise(
     line: &Located<'_>,
@@ -84,11 +92,7 @@ fn is_held_otherwise(
             server: holder,
             write,
             ..
-        } => {
-            holder.index == server.index
-                && write.wid() == wid
-                && (write.stamp() != stamp || *write.deps() != *deps)
-        }
+        } => { holder.index == server.index && write.wid() == wid && !is_same(write, stamp, deps) }
     }
 }
 
@@ -166,8 +170,10 @@ fn write_cause<'a>(
     let Some(_) = held(lines, server, wid) else {
         return Some(Cause::Lost);
     };
-    let shown = differing(lines, server, wid, stamp, deps)?;
-    Some(Cause::Differs(shown))
+    match differing(lines, server, wid, stamp, deps) {
+        Some(shown) => Some(Cause::Differs(shown)),
+        None => None,
+    }
 }
 
 // Which condition the entry fails, after these lines.
@@ -218,7 +224,9 @@ fn place_of_entry(lines: &[Located<'_>], number: usize) -> Option<usize>
 pub fn explain_forged<'a>(lines: &[Located<'a>], number: usize) -> Option<Forged<'a>>
     ensures { MatchOption result (length (filter tells_entry lines.now) ≤ number) (IsForged lines.now number) }
 {
-    let at = place_of_entry(lines, number)?;
+    let Some(at) = place_of_entry(lines, number) else {
+        return None;
+    };
     let line = &lines[at];
     let AuditLine::Entry { entry, .. } = &line.told else {
         return None;

@@ -36,7 +36,11 @@ fn shown(alloc: Global, bytes: &[u8]) -> Result<String, AllocError> {
 }
 
 // A line by its number, and what it is.
-pub(crate) fn line_text(alloc: Global, what: &str, line: Option<Shown<'_>>) -> Result<String, AllocError> {
+pub(crate) fn line_text(
+    alloc: Global,
+    what: &str,
+    line: Option<Shown<'_>>,
+) -> Result<String, AllocError> {
     let Some(line) = line else {
         return format!(in alloc; "  {what}: no line\n");
     };
@@ -103,11 +107,19 @@ fn forged_lines(alloc: Global, forged: &Forged<'_>) -> Result<String, AllocError
     }
 }
 
+// The line that a forged entry's explanation begins with.
+fn entry_title(alloc: Global, number: usize) -> Result<String, AllocError>
+    ensures { IfOk result (λ text. string_bytes text ≡ entry_text number) }
+{
+    format!(in alloc; "entry {number} can't be true\n")
+}
+
 /// The entry of this number, which can't be true, as it is told: its line, the one that it doesn't go with, and which condition it fails.
 pub fn forged_text(alloc: Global, number: usize, forged: &Forged<'_>) -> Result<String, AllocError>
     ensures { IfOk result (λ text. (lines : List ℕ) × (string_bytes text ≡ entry_text number ++ (lines ++ reason_text forged.now.cause))) }
 {
+    let title = entry_title(alloc, number)?;
     let lines = forged_lines(alloc, forged)?;
     let reason = reason(forged.cause);
-    format!(in alloc; "entry {number} can't be true\n{lines}{reason}")
+    format!(in alloc; "{title}{lines}{reason}")
 }

@@ -67,11 +67,7 @@ fn held(file: &AuditFile) -> usize {
 }
 
 // What explains the evidence, and what it was.
-fn explain_file(
-    alloc: Global,
-    text: &[u8],
-    file: &AuditFile,
-) -> Result<String, AllocError>
+fn explain_file(alloc: Global, text: &[u8], file: &AuditFile) -> Result<String, AllocError>
     ensures { IfOk result (λ told. (survey : Result (Vec Found) Bad) × IsSurveyedOf (evidence_of file.now) survey × IsToldOf survey (string_bytes told)) }
 {
     let lines = locate(alloc, text)?;

@@ -6,4 +6,4 @@ use Rattle.bayou_explain.specs.Explanation.{TellEach}
 use Rattle.bayou_explain.proofs.explanation.explanation_text.Given as goal
 
 abbrev pub invariant-loop-explained : goal.invariant-loop-explained
-invariant-loop-explained l = TellEach (breaches_told (take l.explained-index l.list.items)) (string_bytes l.text)
+invariant-loop-explained l = TellEach (breaches_told (take l.explained-index l.explained-items)) (string_bytes l.text)
