@@ -1,6 +1,7 @@
 pub mod Asked
 pub mod Audited
-pub mod Explaining
+pub mod Checking
+pub mod Explains
 pub mod Lent
 pub mod Nets
 pub mod Planned

@@ -1,4 +1,6 @@
 //! Why the servers of a script over sockets didn't begin, looked for once they didn't.
+ghost use Rattle.std.specs.Prelude.{◌<◌};
+
 use bayou_base::ServerId;
 use bayou_device::FileDevice;
 use bayou_print::write_text;
@@ -18,7 +20,9 @@ fn content_cause(
     id: ServerId,
     servers: Servers,
     file: File,
-) -> Result<Option<String>, AllocError> {
+) -> Result<Option<String>, AllocError>
+    requires { id.index < servers.count }
+{
     let mut device = FileDevice::over(file);
     let server = match copied(alloc, id, servers.count, &mut device) {
         Ok(server) => server,

@@ -1,5 +1,5 @@
 //! Every fault of a script or of an audit file, from the words to the exit status.
-ghost use Rattle.std.specs.Prelude.{◌≡◌, ◌⊎◌, ◌≤◌, IfErr, IfOk, IfSome};
+ghost use Rattle.std.specs.Prelude.{◌≡◌, ◌⊎◌, IfErr, IfOk, IfSome, MatchOption};
 ghost use Rattle.bayou_command.specs.Check.{check_seen};
 ghost use Rattle.bayou_print.specs.declared.fault.RunFault.TheVariants.{Input, Memory};
 ghost use Rattle.bayou_shell.specs.Checks.{ChecksAs, IsCheckupOf};
@@ -109,7 +109,7 @@ fn print_report<W: Write>(
 
 // The exit status of a report.
 fn status_of(report: &Report) -> u8
-    ensures value { (result ≡ 0) ⊎ (result ≡ REFUSED) }
+    ensures { MatchOption report.now.least (result ≡ 0) (λ told. result ≡ REFUSED) }
 {
     match report.least {
         Some(_) => REFUSED,

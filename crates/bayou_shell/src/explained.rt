@@ -33,7 +33,7 @@ pub struct Explaining {
 impl Explaining {
     /// What the words ask for.
     pub fn of(alloc: Global, source: Source<'_>) -> Result<Self, AllocError>
-        ensures { IfOk result (IsExplainingOf (input_seen source)) }
+        ensures { IfOk result (IsExplainingOf (input_seen source.entry)) }
     {
         let file = match source {
             Source::Standard => None,
