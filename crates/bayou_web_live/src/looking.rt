@@ -1,4 +1,7 @@
 //! What is seen, as servers tell it.
+ghost use Rattle.std.specs.Prelude.{◌≡◌, IfOk, map};
+ghost use Rattle.bayou_web_live.specs.Done.{TellsDone, status_for};
+ghost use Rattle.bayou_web_live.specs.Told.{row_of};
 
 use bayou_connect::{ConnectFault, Ended, OpenDesk, SeenRow, SeenRows};
 use bayou_net::Sockets;
@@ -27,7 +30,9 @@ pub(crate) struct Looking<'a, T> {
     pub(crate) desk: OpenDesk,
 }
 
-fn status_of(ended: Ended) -> u8 {
+fn status_of(ended: Ended) -> u8
+    ensures { result ≡ status_for ended }
+{
     match ended {
         Ended::Served => 0,
         Ended::Unserved => UNSERVED,
@@ -36,7 +41,9 @@ fn status_of(ended: Ended) -> u8 {
 }
 
 // The rows, as they are shown.
-fn shown_rows(alloc: Global, rows: Vec<SeenRow>) -> Result<Vec<Row>, AllocError> {
+fn shown_rows(alloc: Global, rows: Vec<SeenRow>) -> Result<Vec<Row>, AllocError>
+    ensures { IfOk result (λ shown. shown.items ≡ map row_of rows.items) }
+{
     let mut shown = Vec::with_capacity(alloc, rows.len())?;
     for row in rows {
         let SeenRow {
@@ -53,7 +60,9 @@ fn shown_rows(alloc: Global, rows: Vec<SeenRow>) -> Result<Vec<Row>, AllocError>
     Ok(shown)
 }
 
-fn shown_session(session: &Session) -> SeenSession {
+fn shown_session(session: &Session) -> SeenSession
+    ensures { (result.asks ≡ session.now.asks) × (result.reads ≡ session.now.reads) × (result.writes ≡ session.now.writes) }
+{
     let past = session.past();
     SeenSession {
         asks: session.asks(),
@@ -130,15 +139,24 @@ impl<T: Files<File = File> + Sockets + Wait + Clock> Looking<'_, T> {
         Ok(self.show_rows(seen, rows)?)
     }
 
+    // What is seen after a line: what it made is its own.
+    fn show_done(&self, line: &str) -> Result<(), AllocError> {
+        let mut shown = self.hall.shown.lock(self.rt);
+        let seen = shown.changed();
+        self.show_own(seen, Some(line))
+    }
+
     /// Does a line that was handed in, and tells what became of it.
-    pub(crate) fn do_line(&mut self, line: &str) -> Result<Vec<u8>, ConnectFault> {
+    pub(crate) fn do_line(&mut self, line: &str) -> Result<Vec<u8>, ConnectFault>
+        ensures { IfOk result (λ text. TellsDone line.now self.old.desk.desk text.items) }
+    {
         let (mut printed, mut told) = (Vec::new(self.alloc), Vec::new(self.alloc));
         let mut output = Output::new(&mut printed);
         let ended = self
             .desk
             .do_line(self.rt, line.as_bytes(), &mut output, &mut told)?;
         drop(output);
-        self.show_own(self.hall.shown.lock(self.rt).changed(), Some(line))?;
+        self.show_done(line)?;
         let status = status_of(ended);
         let done = Done {
             printed: &printed,

@@ -1,7 +1,10 @@
 //! A page that is served, from its start to its end.
+ghost use Rattle.std.specs.Prelude.{◌≡◌, ◌+◌, ◌≤◌, ◌↔◌, IfOk, IsTrue};
+ghost use Rattle.bayou_connect.specs.declared.connecting.Ended.TheVariants.{Refused};
+
 use crate::fault::WebFault;
 use crate::looking::Looking;
-use bayou_connect::{Ended, Names, OpenDesk, Plan};
+use bayou_connect::{ConnectFault, Ended, Names, OpenDesk, Plan};
 use bayou_greeting::StoreKey;
 use bayou_net::{Door, Sockets, attend, shut};
 use bayou_print::write_text;
@@ -64,28 +67,44 @@ fn sites_at<'a, T: Wait + Clock>(
 }
 
 // Whether servers are to be asked now: somebody looked a short while ago, and they weren't asked a shorter one ago.
-fn is_due(now: u64, asked: u64, looked: u64) -> bool {
+fn is_due(now: u64, asked: u64, looked: u64) -> bool
+    ensures { IsTrue result ↔ ((asked + LOOK_MILLISECONDS ≤ now) × (now ≤ looked + WATCHED_MILLISECONDS)) }
+{
     now.saturating_sub(asked) >= LOOK_MILLISECONDS
         && now.saturating_sub(looked) <= WATCHED_MILLISECONDS
+}
+
+// Does a line that was handed in, and answers whoever waits for it.
+fn do_next<T: Files<File = File> + Sockets + Wait + Clock>(
+    looking: &mut Looking<'_, T>,
+    line: String,
+) -> Result<(), ConnectFault> {
+    let done = looking.do_line(line.as_str());
+    match done {
+        Ok(text) => {
+            looking.hall.counter.answer(looking.rt, text);
+            Ok(())
+        }
+        Err(fault) => {
+            answer_fault(looking.rt, looking.alloc, looking.hall, fault);
+            Err(fault)
+        }
+    }
 }
 
 // Does each line that is handed in, and asks servers as long as somebody looks, until the desk is at fault.
 fn attend_desk<T: Files<File = File> + Sockets + Wait + Clock>(
     looking: &mut Looking<'_, T>,
 ) -> WebFault {
-    let (rt, alloc, hall) = (looking.rt, looking.alloc, looking.hall);
+    let (rt, hall) = (looking.rt, looking.hall);
     let mut asked = milliseconds(rt);
     if let Err(fault) = looking.look() {
         return WebFault::Desk(fault);
     }
     for _ in rt.forever() {
         if let Some(line) = hall.counter.next(rt, WAIT_MILLISECONDS) {
-            match looking.do_line(line.as_str()) {
-                Ok(text) => hall.counter.answer(rt, text),
-                Err(fault) => {
-                    answer_fault(rt, alloc, hall, fault.into());
-                    return fault.into();
-                }
+            if let Err(fault) = do_next(looking, line) {
+                return WebFault::Desk(fault);
             }
             // What the line made is to be seen at once.
             asked = 0;
@@ -102,7 +121,7 @@ fn attend_desk<T: Files<File = File> + Sockets + Wait + Clock>(
 }
 
 // Tells whoever handed in the last line that the desk is at fault, as far as there is memory for that.
-fn answer_fault<T: Wait>(rt: &T, alloc: Global, hall: &Hall, fault: WebFault) {
+fn answer_fault<T: Wait>(rt: &T, alloc: Global, hall: &Hall, fault: ConnectFault) {
     let Ok(told) = format!(in alloc; "bayou: {fault}\n") else {
         return;
     };
@@ -117,12 +136,12 @@ fn answer_fault<T: Wait>(rt: &T, alloc: Global, hall: &Hall, fault: WebFault) {
 }
 
 // Serves at the listener until the desk is at fault.
-fn serve_at<T>(
-    rt: &T,
+fn serve_at<'a, T>(
+    rt: &'a T,
     alloc: Global,
-    listener: &TcpListener,
-    hall: &Hall,
-    sites: Vec<Site<AtCounter<'_, T>>>,
+    listener: &'a TcpListener,
+    hall: &'a Hall,
+    sites: Vec<Site<AtCounter<'a, T>>>,
     desk: OpenDesk,
 ) -> WebFault
 where
@@ -178,6 +197,8 @@ where
     W: Write,
     E: Write,
     T: Files<File = File> + Threads + Wait + Clock + RandomSource + Sockets + Send + Sync,
+    // It ends well where nothing was served, and then nothing was printed.
+    ensures { IfOk result (λ ended. (ended ≡ Refused) × (output.new ≡ output.old)) }
 {
     let Page { listen, name } = page;
     let Ok(listener) = TcpListener::bind(rt, listen) else {
