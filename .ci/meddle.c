@@ -2,7 +2,7 @@
    says how, in words by threes: a call, the number of it, counted from 1 on, and what becomes of it. Calls of journals are `read`, `append`, `sync`
    and `cut`, and `folder` is the sync of another file: each may `fail`, or `wait` until the pipe GATE was opened and closed. So may a `tell`, a write
    to the standard output, of which `tell 0 short` has each take one byte. A `reply` accepts a Write, and may come `ahead`, as if of the Write
-   behind that, or `bad`, as no frame. A `connect` may `fail`, as if nobody listened there, and so may a `start`, of a thread. Where SLOW is given, each
+   after that, or `bad`, as no frame. A `connect` may `fail`, as if nobody listened there, and so may a `start`, of a thread. Where SLOW is given, each
    sync of a journal takes so many microseconds more. */
 #define _GNU_SOURCE
 #include <dlfcn.h>

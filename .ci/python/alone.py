@@ -11,7 +11,7 @@ def said(asks):
 
 
 def after_read(asks):
-    """Of a session that read at the first server: what a read at the second is told, and what a Write."""
+    """Of a session that read at the first server: what a read at the second hears, and what a Write."""
     return ["refused" if "mr" in asks else "read", "refused" if "wfr" in asks else "wrote"]
 
 

@@ -61,7 +61,7 @@ class Person:
         self.printed, self.told, self.seen = Lines(self.process.stdout), Lines(self.process.stderr), 0
 
     def types(self, line, count):
-        """What is printed behind the line, as many lines as this."""
+        """What is printed after the line, as many lines as this."""
         self.process.stdin.write(line.encode() + b"\n")
         self.process.stdin.flush()
         soon(lambda: len(self.printed.all()) >= self.seen + count or None)
@@ -200,7 +200,7 @@ class Tries:
         return re.fullmatch(r"bayou-key-1 room [0-9a-f]{64}\n", made) is not None and is_serving and server.end()[0] == 0
 
     def typed(self, person, block, name):
-        """Types what stands behind each '>', and compares what stands below it."""
+        """Types what stands after each '>', and compares what stands below it."""
         for typed in re.findall(r"^> (.*\n(?:[^>].*\n)*)", block, re.M):
             line, *expected = typed.splitlines()
             self.that("CONNECT: " + name + ": " + line, person.types(line, len(expected)), expected)

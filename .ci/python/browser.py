@@ -66,7 +66,7 @@ class Page:
             self.events.append(told)
 
     def front(self):
-        """Has it shown: what isn't is told so, and looks less often."""
+        """Has it shown: what isn't hears that, and looks less often."""
         self.call("Page.bringToFront")
 
     def js(self, text):

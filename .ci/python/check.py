@@ -1,4 +1,4 @@
-"""Tries `bayou check` against `bayou run` and `bayou audit`, its two forms against each other, and what is told behind a fault.
+"""Tries `bayou check` against `bayou run` and `bayou audit`, its two forms against each other, and what is reported after a fault.
 
     check.py PROGRAM [GROUP..]
 """
@@ -11,7 +11,8 @@ import sys
 import tempfile
 
 import tables
-from explained import explained
+from explained import explained, objects
+from pictures import pictures
 
 TOP = tables.TOP
 FAULT = re.compile(rb"bayou: line (\d+): ([a-zA-Z ]+)\n")
@@ -35,7 +36,7 @@ class Tries:
         return subprocess.run([self.program, *words], input=text, capture_output=True, timeout=tables.PATIENCE, cwd=cwd)
 
     def objects(self, text):
-        """The objects of the lines with a fault, the one behind them, and the status."""
+        """The objects of the lines with a fault, the one after them, and the status."""
         done = self.call("check", "--json", "-", text=text)
         lines = [json.loads(line) for line in done.stdout.decode().split("\n")[:-1]]
         return lines[:-1], lines[-1], done
@@ -82,7 +83,7 @@ def least(tries):
 
 
 def forms(tries):
-    """What people are told is what programs are."""
+    """What people read is what programs read."""
     rows = tables.Checked(None, os.path.join(TOP, "check", "script-mistakes.rows"), False)
     text = b"".join(rows.line_of(row) + b"\n" for _, row in rows.rows)
     text = rows.before.encode() + text
@@ -97,7 +98,7 @@ def forms(tries):
         tries.that("line %d: its mark" % one["line"], marked.count("^") <= one["length"] and "^" in marked, True)
         for word, key in (("found", "found"), ("expected", "expected"), ("fix", "fix"), ("see", "page")):
             line = "\n  %-9s %s\n" % (word, one[key])
-            # (the end of the text stands behind the last one)
+            # (the end of the text stands after the last one)
             tries.that("line %d: %s" % (one["line"], word), line in part, one[key] is not None)
     tries.that("the last line", shown.split("\n")[-2 if last["faults"] <= 1001 else -3].startswith("-: script with %d faults in %d lines" % (last["faults"], last["lines"])), True)
 
@@ -124,7 +125,7 @@ def streams(tries):
 
 
 def at_terminal(program, *words):
-    """What is told on a terminal."""
+    """What is shown at a terminal."""
     ours, theirs = pty.openpty()
     done = subprocess.Popen([program, *words], stdin=subprocess.DEVNULL, stdout=subprocess.PIPE, stderr=theirs)
     os.close(theirs)
@@ -144,7 +145,7 @@ def at_terminal(program, *words):
 
 
 def told(tries):
-    """What stands behind the one line of a fault."""
+    """What stands after the one line of a fault."""
     with tempfile.TemporaryDirectory() as room:
         def path(name, text=None):
             at = os.path.join(room, name)
@@ -173,7 +174,7 @@ def told(tries):
 
 
 def device(tries, path):
-    """What is told of a folder or a journal that servers can't begin with."""
+    """What is reported of a folder or a journal that servers can't begin with."""
     def net(folder, script):
         done = tries.call("net", "--dir", folder, path("net.jsonl", script))
         return done.returncode, done.stderr.decode()
@@ -205,7 +206,8 @@ def device(tries, path):
         tries.that("in use", net(here, one), (3, "bayou: device\n  %s: another run, or a server that lives, has it\n" % journal))
 
 
-GROUPS = {"least": least, "forms": forms, "streams": streams, "told": told, "explained": explained}
+GROUPS = {"least": least, "forms": forms, "streams": streams, "told": told, "explained": explained,
+          "objects": objects, "pictures": pictures}
 
 
 def main(program, *words):

@@ -43,7 +43,7 @@ LONG = "bad value; a text has at most 32 bytes"
 # What a server has for its connection and its whole reply where nothing is said, and what a busy machine may add.
 TIMEOUT, BUSY = 3, 4
 ENTRY_BYTES = 179
-# What is told of a value, of an own Write, and of one that isn't kept any longer.
+# What is reported of a value, of an own Write, and of one that isn't kept any longer.
 STANDING = r"[0-9]+ (?:(?:tentative|final|changed) (?:[0-9]+:[0-9]+ (?:update|merge [0-9]+|none)|[a-z0-9._/-]+)|forgot [0-9]+:[0-9]+)"
 # How often a session lists while servers pull.
 LISTS = 10_000
@@ -60,7 +60,7 @@ def chained(header, bodies):
     return b"".join(entries)
 
 
-# What is told where a log is full.
+# What is reported where a log is full.
 FULL = "bayou: the log is full: start its server with a greater --limit, or go on at a new store, which `bayou renew` makes (docs/SERVE.md)"
 
 
@@ -127,7 +127,7 @@ class Dripping(Listening):
 
 
 class Holding(Listening):
-    """Tells a read that it holds nothing, and sends these Items to whoever asks what it holds, and an end behind the last, if one is the last."""
+    """Tells a read that it holds nothing, and sends these Items to whoever asks what it holds, and an end after the last, if one is the last."""
 
     def __init__(self, items):
         self.items, self.sent = items, 0
@@ -244,7 +244,7 @@ class Tries(Standings):
                  ["--log", self.room + "/none/log"])
 
     def logged(self):
-        """Each line that is printed is added to the log, behind its time; what can't be added is told once, and keeps nothing from being printed."""
+        """Each line that is printed is added to the log, after its time; what can't be added is reported once, and keeps nothing from being printed."""
         server = self.start(self.folder())
         at, log, begun = [(0, server.address())], os.path.join(self.room, "a.log"), time.time() * 1000
         calls = [(["put a 1", "get a"], 0, ['0 wrote 0:1 clock 1 deps 0', '0 read a num 1 at 1']), (["get b", "foo"], 2, ['0 read b none at 1']), ([], 0, [])]
@@ -331,7 +331,7 @@ class Tries(Standings):
         self.stop_all()
 
     def claims(self):
-        """A claim that is made twice has one key, and one that has got nothing is told so."""
+        """A claim that is made twice has one key, and one that has got nothing says so."""
         folder = self.folder()
         first, second = self.start(folder, 0, 2), self.start(folder, 1, 2)
         at = [(0, first.address())]
@@ -353,7 +353,7 @@ class Tries(Standings):
         self.stop_all()
 
     def additions(self):
-        """An addition to a text is told to have done nothing, and the session has read nothing by that."""
+        """An addition to a text is reported to have done nothing, and the session has read nothing by that."""
         server = self.start(self.folder())
         at = [(0, server.address())]
         self.row("to nothing, to a number, to a text", at, ["add n 5", "add n 2", "put t kim", "session", "add t 1", "session", "get n"],
@@ -614,7 +614,7 @@ class Tries(Standings):
         self.stop_all()
 
     def outcomes(self):
-        """What became of a Write is told by its name, as the server has it by then, and counts as read."""
+        """What became of a Write is answered by its name, as the server has it by then, and counts as read."""
         folder = self.folder()
         first, second = self.start(folder, 0, 2), self.start(folder, 1, 2)
         both = [(0, first.address()), (1, second.address())]
@@ -693,7 +693,7 @@ class Tries(Standings):
             except bayou.Lost:
                 told = "lost"
             self.that("and a Write goes nowhere else", told, "lost")
-        # What the server holds is told as it is greeted; the first reply is what it sends of that.
+        # The server tells what it holds as it is greeted; the first reply is what it sends of that.
         way = DropReply(server.port, 1)
         self.row("a list whose reply is lost goes to the next server", [(0, way.address), (1, other.address())], ["list"], ["list keys 0 at 0,0"])
         self.stop_all()
@@ -767,7 +767,7 @@ class Tries(Standings):
         self.stop_all()
 
     def damaged(self, state):
-        """A state of which more than a torn entry is broken: it is told, and stays."""
+        """A state of which more than a torn entry is broken: it is reported, and stays."""
         server = self.start(self.folder())
         at = [(0, server.address())]
         os.remove(state)
@@ -853,7 +853,7 @@ class Tries(Standings):
         self.stop_all()
 
     def lists(self):
-        """A list shows nothing older than what the session needs: of a server that is behind it is told so, or the next one is listed."""
+        """A list shows nothing older than what the session needs: a server that is behind says so, or the next one is listed."""
         both = self.apart()
         for turn, (asks, lines) in enumerate([("mr", ["get a"]), ("mr", ["list"]), ("mr", ["became 0:1"]), ("ryw", ["put b 2"]), ("all", ["put b 2", "get a"])]):
             state = os.path.join(self.room, "lists-%d" % turn)
@@ -967,7 +967,7 @@ class Tries(Standings):
         self.that("the tags have these numbers", tags, numbers + [0])
 
     def strangers(self):
-        """Another server answers than the one that is asked: that is told once, nothing is sent to it, and the next one is asked."""
+        """Another server answers than the one that is asked: that is reported once, nothing is sent to it, and the next one is asked."""
         folder = self.folder()
         server = Server(self.program, folder, 1, servers=2, new=True)
         server.serving()
@@ -990,7 +990,7 @@ class Tries(Standings):
         self.stop_all()
 
     def keyed(self):
-        """A store that has a key: who has it is served, a server that hasn't got it is told and sent nothing, and a state is of one store."""
+        """A store that has a key: who has it is served, a server that hasn't got it is reported and sent nothing, and a state is of one store."""
         folder = self.folder()
         paths = {}
         for name in ("room", "other"):
@@ -1024,7 +1024,7 @@ class Tries(Standings):
         self.stop_all()
 
     def full(self):
-        """A Write that a full log refuses is told with what to do then; reads are served, and nothing is told of them."""
+        """A Write that a full log refuses is reported with what to do then; reads are served, and nothing is reported of them."""
         server = self.start(self.folder(), words=["--limit", "2"])
         at = [(0, server.address())]
         self.row("a log gets full", at, ["put a 1", "put b 2", "put c 3", "get a"],

@@ -96,7 +96,7 @@ class Differing:
         self.that("and not more often", all(sum("other Writes" in line for line in server.told.all()) <= 8 for server in servers))
 
     def restored_behind(self, servers, start, path):
-        """The old copy is made again from the others, and nothing is told any more."""
+        """The old copy is made again from the others, and nothing is reported any more."""
         self.ends("of an old copy", servers[0])
         server = start(0, False)
         self.that("it isn't started again", (server.ended()[0], server.told.all()[-1:]),
@@ -173,7 +173,7 @@ class Differing:
             self.that("and may ask", visitor.ask(frames.OFFER, frames.vector_bytes(truth.vector))[0], frames.END)
 
     def alike(self):
-        """Usual work: three servers write and pull, and are ended and killed now and then. Nobody is told that anything differs."""
+        """Usual work: three servers write and pull, and are ended and killed now and then. No server reports that anything differs."""
         folder = self.folder()
         servers, start = self.fleet(folder)
         self.that("three servers at work", all([server.serving() is not None for server in servers]))

@@ -1,5 +1,5 @@
-"""What `bayou audit --explain` shows of a file, read again from the file alone: what an audit prints comes first, and each breach of the survey is told with
-lines that say what is told of them."""
+"""What `bayou audit --explain` shows of a file, read again from the file alone: what an audit prints comes first, and each breach of the survey comes with
+lines that explain it."""
 import json
 import os
 import re
@@ -61,7 +61,7 @@ def cut(line):
 
 
 def tell_of(tries, name, lines, breach, told):
-    """Whether the lines that are told show the breach."""
+    """Whether the lines that explain the breach show it."""
     session, guarantee, first, second, server, origin, seq = breach
     tries.that("%s: a breach is named" % name, told[0], "session %d, places %d and %d: %s" % (session, first, second, NAMES[guarantee]))
     shown = Shown(tries, name, lines, told[1:-1])
@@ -75,13 +75,20 @@ def tell_of(tries, name, lines, breach, told):
 
 
 def paragraphs(rest):
-    """What is told, each part with its heading."""
+    """What is explained, each part with its heading."""
     parts = []
     for line in rest:
         if not line.startswith("  ") or not parts:
             parts.append([])
         parts[-1].append(line)
     return parts
+
+
+def standing(said):
+    """How many Writes of each server each server holds."""
+    names = [(line[1], line[2][0]) for line in said if line[0] == "held"]
+    servers = range(said[0][1])
+    return "held:" + "".join(" server %d %s" % (server, ",".join(str(names.count((server, origin))) for origin in servers)) for server in servers)
 
 
 def explained(tries):
@@ -97,8 +104,9 @@ def explained(tries):
         said = [json.loads(line) for line in lines if line.strip()]
         counts = [sum(line[0] == word for line in said) for word in ("entry", "held")]
         tries.that("%s: what was audited" % name, rest[-2:], ["audited: servers %d entries %d held %d" % (said[0][1], *counts), ""])
+        tries.that("%s: where each server stands" % name, rest[-3], standing(said))
         verdict, *survey = plain.stdout.decode().split("\n")[:-1]
-        parts = paragraphs(rest[:-2])
+        parts = paragraphs(rest[:-3])
         if verdict.startswith("judge refused"):
             refused(tries, name, lines, verdict, parts)
             continue
@@ -108,8 +116,39 @@ def explained(tries):
             tell_of(tries, name, lines, breach, told)
 
 
+def misfit(said, server, place):
+    """The first condition that the Write at this place of the server's dump fails (docs/AUDIT.md, "Refusals")."""
+    servers = said[0][1]
+    dumps = [[line[2] for line in said if line[0] == "held" and line[1] == holder] for holder in range(servers)]
+    before, (origin, seq, clock, deps, program) = dumps[server][:place], dumps[server][place]
+    held = [sum(write[0] == other for write in before) for other in range(servers)]
+    if seq != held[origin] + 1:
+        return "  its number: found %d, expected one more than the %d of server %d's before it" % (seq, held[origin], origin)
+    for other in range(servers):
+        if deps[other] > held[other]:
+            return "  its past: found %d Writes of server %d, expected %d at most, those before it" % (deps[other], other, held[other])
+    if deps[origin] != seq - 1:
+        return "  its past: found %d Writes of its own server, expected one less than its number %d" % (deps[origin], seq)
+    greatest = max([write[2] for write in before if write[1] <= deps[write[0]]], default=0)
+    if clock != greatest + 1:
+        return "  its clock: found %d, expected %d, one more than the greatest of its past" % (clock, greatest + 1)
+    for other in range(servers):
+        if origin == server and deps[other] != held[other]:
+            return "  its past: found %d Writes of server %d, expected %d, all those before it" % (deps[other], other, held[other])
+    for other in range(server):
+        for write in dumps[other]:
+            if write[:2] == [origin, seq] and (write[2:4] != [clock, deps] or plain(write[4]) != plain(program)):
+                return "  its content: found another Write of its name at server %d" % other
+    return None
+
+
+def plain(program):
+    """A program with each of its lists."""
+    return {part: program.get(part, []) for part in ("check", "update", "merge")}
+
+
 def refused(tries, name, lines, verdict, parts):
-    """Whether what is told of a refused verdict shows the entry or the Write that it names."""
+    """Whether the explanation of a refused verdict shows the entry or the Write that it names."""
     kind, *numbers = verdict.split()[2:]
     said = [(at + 1, json.loads(line)) for at, line in enumerate(lines) if line.strip()]
     if kind == "forged":
@@ -118,4 +157,85 @@ def refused(tries, name, lines, verdict, parts):
         what, places = "the Write", [at for at, line in said if line[0] == "held" and line[1] == int(numbers[0])][int(numbers[1])]
     tries.that("%s: one refusal is told" % name, len(parts), 1)
     tries.that("%s: of that line" % name, Shown(tries, name, lines, parts[0][1:-1]).of(what), [places])
+    if kind == "dump":
+        tries.that("%s: the condition that it fails" % name, parts[0][-1], misfit([line for _, line in said], *map(int, numbers)))
     tries.that("%s: a condition ends it" % name, len(parts[0][-1]) > 10 and parts[0][-1].startswith("  ") and "no line shows" not in parts[0][-1], True)
+
+
+def numbers_of(line, kinds):
+    """What a line of a verdict or a survey says of a breach, as its object does."""
+    first, second, server, origin, seq = map(int, kinds)
+    return {"first": first, "second": second, "server": server, "wid": [origin, seq]}
+
+
+def verdict_object(line):
+    """The object of a verdict's line."""
+    words = re.split(r"[ :]", line)
+    if words[0] == "clean":
+        return {"kind": "verdict", "verdict": "clean"}
+    if words[0] == "broken":
+        said = {"kind": "verdict", "verdict": "broken", "guarantee": words[1], "session": int(words[3])}
+        return {**said, **numbers_of(line, (words[5], words[6], words[8], words[10], words[11]))}
+    where = {"entry": int(words[3])} if words[2] == "forged" else {"dump": int(words[3]), "place": int(words[4])}
+    return {"kind": "verdict", "verdict": "refused", **where}
+
+
+def survey_object(line):
+    """The object of a survey's line."""
+    said = {"kind": "survey", "session": int(line.split()[1]), "ryw": None, "mr": None, "wfr": None, "mw": None}
+    for found in BROKEN.finditer(line):
+        said[found[1]] = numbers_of(line, found.groups()[1:])
+    return said
+
+
+def first_line(said, test):
+    return next((number for number, line in said if test(line)), None)
+
+
+def breach_object(said, breach):
+    """The object of a breach, with the first lines of the file that show it."""
+    session, guarantee, first, second, server, origin, seq = breach
+    lines = {"first": first_line(said, lambda line: is_operation(line, session, first)), "second": first_line(said, lambda line: is_operation(line, session, second)),
+             "write": first_line(said, lambda line: is_held(line, origin, origin, seq)), "there": first_line(said, lambda line: is_held(line, server, origin, seq))}
+    return {"kind": "breach", "guarantee": guarantee, "session": session, "first": first, "second": second, "server": server, "wid": [origin, seq], "lines": lines}
+
+
+def objects(tries):
+    """The objects of an audit say what its lines say."""
+    for name, text in audit_files():
+        plain = tries.call("audit", "-", text=text)
+        done = tries.call("audit", "--json", "-", text=text)
+        tries.that("%s: the status is the audit's" % name, (done.returncode, done.stderr), (plain.returncode, plain.stderr))
+        verdict, *survey = plain.stdout.decode().split("\n")[:-1] or [""]
+        if plain.stderr:
+            tries.that("%s: nothing is told" % name, done.stdout, plain.stdout)
+            continue
+        told = [json.loads(line) for line in done.stdout.decode().split("\n")[:-1]]
+        tries.that("%s: an object for each line" % name, told, [verdict_object(verdict), *map(survey_object, survey)])
+        more = [json.loads(line) for line in tries.call("audit", "--explain", "--json", "-", text=text).stdout.decode().split("\n")[:-1]]
+        tries.that("%s: the same first" % name, more[:len(told)], told)
+        said = [(at + 1, json.loads(line)) for at, line in enumerate(text.decode().split("\n")) if line.strip()]
+        bare = [line for _, line in said]
+        names, servers = [(line[1], line[2][0]) for line in bare if line[0] == "held"], range(bare[0][1])
+        audited = {"kind": "audited", "servers": bare[0][1], "entries": sum(line[0] == "entry" for line in bare),
+                   "held": [[names.count((server, origin)) for origin in servers] for server in servers]}
+        tries.that("%s: what was audited" % name, more[-1], audited)
+        rest = more[len(told):-1]
+        if not verdict.startswith("judge refused"):
+            tries.that("%s: each breach" % name, rest, [breach_object(said, breach) for breach in breaches(survey)])
+            continue
+        explained = paragraphs(tries.call("audit", "--explain", "-", text=text).stdout[len(plain.stdout):].decode().split("\n")[:-3])
+        shown = Shown(tries, name, text.decode().split("\n"), explained[0][1:-1])
+        lines = [(shown.of("the entry") + shown.of("the Write"))[0], (shown.of("against") or [None])[0]]
+        tries.that("%s: one refusal, of those lines" % name, [(one["kind"], one["line"], one["against"]) for one in rest], [("refusal", *lines)])
+        tries.that("%s: its condition" % name, condition_of(explained[0][-1]), rest[0]["condition"])
+
+
+CONDITIONS = {"place isn't above": "place", "asked for something else": "asks", "another server accepted": "origin", "names the same Write": "again", "it was lost": "lost",
+              "another clock or another past": "differs", "never had the database": "database", "its number:": "number", "at most": "counts",
+              "of its own server": "own", "its clock:": "clock", "all those before it": "past", "another Write of its name": "other"}
+
+
+def condition_of(line):
+    """The word of the condition that a last line says isn't met."""
+    return next((word for said, word in CONDITIONS.items() if said in line), None)

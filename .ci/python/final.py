@@ -1,4 +1,4 @@
-"""What the client in python tells as final stays so, and is told once. Call: final.py PROGRAM [SECONDS [SEED]]."""
+"""What the client in python tells as final stays so, and is reported once. Call: final.py PROGRAM [SECONDS [SEED]]."""
 import json
 import os
 import random
@@ -20,7 +20,7 @@ import bayou  # noqa: E402
 
 SERVERS = 3
 KEYS = ["a", "b", "c", "d", "e"]
-# How many Writes are to become final while servers are under load, a second, and for how many seconds one of the watcher's own is to be told as final then.
+# How many Writes are to become final while servers are under load, a second, and for how many seconds one of the watcher's own is to be reported as final then.
 LEAST_FINAL, LEAST_TOLD = 5, 4
 # How long a pause between two Writes of a writer, and between two of the watcher, is: no more than 64 of the watcher's are to wait until they are final.
 WRITER_REST, WATCHER_REST = 0.03, 0.4
@@ -140,12 +140,12 @@ class Store:
 
 
 class Watcher:
-    """A session that writes, looks, and notes what it was told."""
+    """A session that writes, looks, and notes what it heard."""
 
     def __init__(self, addresses, seed):
         self.session = bayou.Session(addresses, number=31, timeout=TIMEOUT)
         self.draw, self.servers = random.Random(seed), len(addresses)
-        # What it was told as final, each once; of each own Write what was told of it, in turn; and what was wrong with it.
+        # What it heard as final, each once; of each own Write what was reported of it, in turn; and what was wrong with it.
         self.finals, self.told, self.wrong, self.wrote, self.tentative = [frames.ZERO], {}, [], 0, 0
         self.clocks = {}
 
@@ -180,7 +180,7 @@ class Watcher:
         self.tentative += not change.is_final
 
     def final_told(self):
-        """What was told as final, of each Write of which that was told."""
+        """What was reported as final of each Write, where something was."""
         return {name: told[-1][0] for name, told in self.told.items() if told and told[-1][1]}
 
     def go_on(self, over):
@@ -193,12 +193,12 @@ class Watcher:
 
 
 class Person:
-    """Calls of `bayou connect`, one after another, with a state and a log: what the log says that they told as final, and of which beginning that was told."""
+    """Calls of `bayou connect`, one after another, with a state and a log: what the log says that they told as final, and of which beginning."""
 
     def __init__(self, program, folder, addresses, seed):
         self.program, self.state, self.addresses, self.draw = program, os.path.join(folder, "person.state"), addresses, random.Random(seed)
         self.log, self.read = os.path.join(folder, "person.log"), 0
-        # The beginnings; the values that were told as final, and the outcomes of own Writes, each with the beginning behind it; what was wrong; the calls.
+        # The beginnings; the values that were reported as final, and the outcomes of own Writes, each with the beginning after it; what was wrong; the calls.
         self.finals, self.values, self.own, self.wrong, self.calls, self.tentative = [], [], {}, [], 0, 0
 
     def call(self, line):
@@ -215,7 +215,7 @@ class Person:
         return logged
 
     def logged(self):
-        """What the log has more than before, each line without its time, which is behind the one before it."""
+        """What the log has more than before, each line without its time; the times are in order."""
         with open(self.log) as file:
             file.seek(self.read)
             lines = [line.split(" ", 1) for line in file.read().splitlines()]
@@ -345,7 +345,7 @@ class Tries:
     def store(self, count, chance):
         return Store(self.program, tempfile.mkdtemp(dir=self.room), count, self.seed, chance)
 
-    # Nothing that was told as final is contradicted.
+    # Nothing that was reported as final is contradicted.
 
     def told(self):
         store = self.store(SERVERS, 0.5)
@@ -414,7 +414,7 @@ class Tries:
                 watcher.look()
 
     def settle(self, store, watcher, load, name):
-        """All that is held becomes final, and is told so of each own Write."""
+        """All that is held becomes final, and is reported so of each own Write."""
         self.make_up(store, watcher)
         self.that("all meet " + name, soon(store.have_met) is not None)
         all_held = store.vectors()[0]
@@ -427,14 +427,14 @@ class Tries:
             load.take(index)
 
     def not_contradicted(self, watcher, load):
-        """No dump, of a server that held all that was told as final, begins with other Writes in stamp order, or has other outcomes."""
+        """No dump, of a server that held all that was reported as final, begins with other Writes in stamp order, or has other outcomes."""
         dumps, last = load.kept()
         self.that("there are dumps: %d" % len(dumps), len(dumps) >= 3 * SERVERS)
         self.that("what was told was told in order, and once", watcher.wrong, [])
         wrong = [(held.name, final) for held in dumps for final in watcher.finals if not held.begins_with(final)]
         self.that("no dump begins otherwise: %d of them with %d beginnings" % (len(dumps), len(watcher.finals)), wrong[:3], [])
         told = watcher.final_told()
-        # (the least that was final when the Write was told so covers it: a dump that holds more has its outcome)
+        # (the least that was final when the Write was reported so covers it: a dump that holds more has its outcome)
         least = {name: next(final for final in watcher.finals if name[1] <= final[name[0]]) for name in told}
         wrong = [(held.name, name, held.became.get(name), told[name]) for held in dumps for name in told
                  if frames.dominates(held.vector(), least[name]) and held.became.get(name) != told[name]]
@@ -466,13 +466,13 @@ class Tries:
     # Two persons, one room.
 
     def person(self, store, number, *words):
-        """What a call of this person prints, which is killed behind that."""
+        """What a call of this person prints, which is killed after that."""
         call = [sys.executable, "-B", "python/final_person.py", os.path.join(store.folder, "person-%d.state" % number), str(number), ",".join(store.addresses)]
         done = subprocess.run(call + list(words), stdout=subprocess.PIPE, stderr=subprocess.PIPE, timeout=SECONDS)
         return done.returncode, done.stdout.decode().splitlines(), done.stderr.decode()[-300:]
 
     def tells(self, store, name, *expected):
-        """What changed is told to each person, and then nothing is."""
+        """Each person learns what changed, and then nothing."""
         for number, lines in enumerate(expected):
             self.that("%s, person %d" % (name, number), self.person(store, number), (-9, lines, ""))
             self.that("%s, person %d once more" % (name, number), self.person(store, number), (-9, [], ""))

@@ -227,7 +227,7 @@ class Bytes:
         return (code,)
 
     def optional(self, one, first):
-        """Nothing, which is a byte 0; or one of these, which stands behind the byte `first` where that is given."""
+        """Nothing, which is a byte 0; or one of these, which stands after the byte `first` where that is given."""
         if self.data[self.at:self.at + 1] == b"\x00":
             self.at += 1
             return None
@@ -310,11 +310,11 @@ def journal(server, bodies, version=NEWEST_VERSION):
 
 
 def last_digest(whole):
-    """The digest that a whole journal's next entry stands behind."""
+    """The digest that a whole journal's next entry stands after."""
     return hashlib.sha256(whole).digest() if len(whole) == HEADER else whole[-32:]
 
 
 def entry(digest, body):
-    """The entry of this body behind that digest."""
+    """The entry of this body after that digest."""
     length = struct.pack(">H", len(body))
     return length + body + hashlib.sha256(digest + length + body).digest()

@@ -1,4 +1,4 @@
-"""Greetings, tried from outside: who answers is the one that was asked, or that is told, and nothing is sent to another."""
+"""Greetings, tried from outside: who answers is the one that was asked, or that is reported, and nothing is sent to another."""
 import contextlib
 import os
 import random
@@ -336,7 +336,7 @@ class Greeting:
         way.end()
 
     def older_peers(self):
-        """A peer that knows no greetings is pulled from all the same, and that is told once; one that answers otherwise is away."""
+        """A peer that knows no greetings is pulled from all the same, and that is reported once; one that answers otherwise is away."""
         fake = Answering(b"")
         server = Server(self.program, self.folder(), 0, servers=2, peers=[(1, fake.port)], new=True)
         server.serving()

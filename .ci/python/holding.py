@@ -154,7 +154,7 @@ class Holding:
                       met.reads > 4 and met.longest <= max(1.0, met.clock / 2))
 
     def bad_peers_at_start(self):
-        """Peers that are silent, drip, never end or lie hold a start up for five seconds at the most, all together; what they don't say is told."""
+        """Peers that are silent, drip, never end or lie hold a start up for five seconds at the most, all together; what they don't say is reported."""
         ways = [silent, silent, dripping, dripping, endless, endless, lying]
         bad = [Bad(way, greets) for way, greets in zip(ways, itertools.cycle([True, False]))]
         begun = time.monotonic()
@@ -197,7 +197,7 @@ class Holding:
         bad.close()
 
     def descriptors(self):
-        """Where no more files may be open that is told once, and a start that can take no connection ends."""
+        """Where no more files may be open that is reported once, and a start that can take no connection ends."""
         # (three of its own twice, the journal, its mark, the socket and a copy of it are ten)
         for files in (6, 8, 10):
             limit = lambda: resource.setrlimit(resource.RLIMIT_NOFILE, (files, files))  # noqa: E731, B023
@@ -315,7 +315,7 @@ class Holding:
 
 
 class Member(threading.Thread):
-    """One of a crowd, which does the same until it is told to stop, and keeps what went wrong."""
+    """One of a crowd, which does the same until it is asked to stop, and keeps what went wrong."""
 
     def __init__(self, server, stop, part):
         super().__init__(daemon=True)

@@ -90,7 +90,7 @@ def changed(rng, reply):
 
 
 def expected(kind, data):
-    """What the client is to tell of these bytes: the name of a fault, or what it was told."""
+    """What the client is to tell of these bytes: the name of a fault, or what it heard."""
     read, ended = frames.frames_of(data)
     if not read:
         return "Lost"
@@ -149,7 +149,7 @@ def rounds(checks, count, seed):
 
 
 def leftovers(checks):
-    """Bytes behind a reply are none of the next one's."""
+    """Bytes after a reply are none of the next one's."""
     server = Answers()
     server.is_silent = True
     first = frames.frame(frames.SEEN, frames.value_bytes(1) + frames.vector_bytes(HELD))

@@ -1,4 +1,4 @@
-"""What was told is kept, tried from outside. Call: kept.py PROGRAM [GROUP..]."""
+"""What was reported is kept, tried from outside. Call: kept.py PROGRAM [GROUP..]."""
 import itertools
 import os
 import re
@@ -32,7 +32,7 @@ def closing(subset):
 
 
 def left_behind(path):
-    """How many entries a journal has, and how many bytes stand behind the last whole one."""
+    """How many entries a journal has, and how many bytes stand after the last whole one."""
     with open(path, "rb") as file:
         whole = file.read()
     digest, at, count = frames.hashlib.sha256(whole[:frames.HEADER]).digest(), frames.HEADER, 0
@@ -142,7 +142,7 @@ class Tries:
             self.that("its file has the key and nothing else " + name, re.fullmatch(r"bayou-key-1 room [0-9a-f]{64}\n", file.read()) is not None)
 
     def closed_renew(self, subset, name):
-        """What is made with the streams closed has the entries of what is made with them open, and nothing behind them."""
+        """What is made with the streams closed has the entries of what is made with them open, and nothing after them."""
         old, path = self.folder(), "server-0.journal"
         server = Server(self.program, old, 0, servers=1, new=True)
         server.serving()

@@ -1,4 +1,4 @@
-"""Each bit of what is kept turned, tried from outside: what was told stays, but for the very last, or the fault is named and nothing changes."""
+"""Each bit of what is kept turned, tried from outside: what was reported stays, but for the very last, or the fault is named and nothing changes."""
 import os
 import re
 import shutil
@@ -81,7 +81,7 @@ class Bits:
         count = self.count(printed)
         if count is None:
             return status != 0 and same == left == len(self.whole) and re.fullmatch(self.named, told) is not None
-        # What goes is the last entry, and that is told.
+        # What goes is the last entry, and that is reported.
         return same >= self.starts[-2] and count >= self.most - 1 and re.match(self.dropped, told) is not None
 
     def wrong(self, told, bits):

@@ -31,7 +31,7 @@ def puts(number):
 
 
 def own(*numbers):
-    """Writes of server 0, one behind another, which put these numbers."""
+    """Writes of server 0, one after another, which put these numbers."""
     return [(0, place, place, frames.counts(place - 1), puts(number)) for place, number in enumerate(numbers, 1)]
 
 
@@ -41,7 +41,7 @@ def of_two(number):
 
 
 def of(origin, count):
-    """So many Writes of this server, one behind another."""
+    """So many Writes of this server, one after another."""
     return [(origin, place, place, tuple((place - 1) * (index == origin) for index in range(frames.SERVERS)), puts(place)) for place in range(1, count + 1)]
 
 
@@ -141,11 +141,11 @@ class Tries:
         self.that("nothing is left where one has " + name, os.listdir(folder), [])
 
     def turned(self):
-        """They are told as they are asked."""
+        """They are named in the order in which they are asked."""
         self.differ("another Write, asked first", [own(1, 2), own(1, 9)], (2, 1, 2), is_turned=True)
 
     def twice(self):
-        """Servers that live: server 0 gives a name twice, behind an old copy of its journal, and two peers have either Write of it."""
+        """Servers that live: server 0 gives a name twice, after an old copy of its journal, and two peers have either Write of it."""
         folder, path = self.folder()
         ports = [free_port() for _ in range(3)]
         peers = lambda index: [(other, ports[other]) for other in range(3) if other != index]  # noqa: E731
@@ -266,7 +266,7 @@ class Tries:
         self.that("without all others", (server.ended(), server.told.all()), ((3, []), [NOT_RESTORED % (path, "no peer was reached")]))
 
     def marked(self):
-        """Who asks servers what they hold is told of the one that was restored without another, over restarts, until its journal is another one."""
+        """Who asks servers what they hold learns of the one that was restored without another, over restarts, until its journal is another one."""
         folder, path = self.folder()
         mark = path + ".without"
 

@@ -229,7 +229,7 @@ class Keys:
         self.that(name, (ended, printed, server.told.all()), (3, [], [line]))
 
     def raised(self):
-        """A store that was open gets a key, and its journal goes on; --anyone without a key is told."""
+        """A store that was open gets a key, and its journal goes on; --anyone without a key is reported."""
         folder, path = self.folder(), self.key()
         server = Server(self.program, folder, 0, servers=1, new=True)
         server.serving()

@@ -11,7 +11,7 @@ ROWS_AT_ONCE = 121
 
 
 def with_outcomes(lines, printed):
-    """What is printed, with what became of each Write of a short line behind it: its update, where nothing else is said."""
+    """What is printed, with what became of each Write of a short line after it: its update, where nothing else is said."""
     if any(line.startswith('["write",0,') or line.startswith('["again",0') for line in lines):
         return list(printed)
     told = []

@@ -127,7 +127,7 @@ class Lookups:
         self.that("a told end", server.end()[0], 0)
 
     def lookups_with_a_key(self):
-        """At a store that has a key rows are told to who proved to have it alone."""
+        """At a store that has a key only who proved to have it gets rows."""
         path = self.key()
         server = Server(self.program, self.folder(), 0, servers=1, new=True, words=["--key", path])
         server.serving()

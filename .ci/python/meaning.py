@@ -26,7 +26,7 @@ def value_of(term, database):
 
 
 def behind_ops(ops, database):
-    """The database behind the ops, or None where one of them can't be done."""
+    """The database after the ops, or None where one of them can't be done."""
     database = dict(database)
     for op in ops:
         if op[0] == "del":
@@ -40,7 +40,7 @@ def behind_ops(ops, database):
 
 
 def became(program, database):
-    """What becomes of the program, which is "update", "merge" with the number of the alternative, or "none", and the database behind it."""
+    """What becomes of the program, which is "update", "merge" with the number of the alternative, or "none", and the database after it."""
     check, update, merge = program
     if all(holds(condition, database) for condition in check):
         then = behind_ops(update, database)
@@ -54,5 +54,5 @@ def became(program, database):
 
 
 def behind(program, database):
-    """The database behind the program."""
+    """The database after the program."""
     return became(program, database)[1]

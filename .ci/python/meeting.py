@@ -41,7 +41,7 @@ def reply_to_greeting(text, limit=frames.MAX_COUNT):
         asked, count = text[4], text[6]
         welcome = bytes([2, asked if asked < frames.SERVERS else 0, count or 1, 0]) + bytes(16) + bytes(32)
         return frames.frame(WELCOME, welcome)
-    # (a peer that tells digests is told those of no Writes)
+    # (a peer that tells digests gets those of no Writes)
     digests = b"\1" + bytes(8 * frames.SERVERS) if text[35:36] == b"\1" else b"\0"
     return frames.frame(KNOWN, frames.vector_bytes(frames.ZERO) + limit.to_bytes(4, "big") + digests + b"\xff")
 
@@ -67,7 +67,7 @@ class Fake:
             stream.close()
 
     def answer_one(self, stream):
-        """Answers the first request, behind greetings."""
+        """Answers the first request, after greetings."""
         with contextlib.suppress(OSError):
             text = stream.recv(4096)
             while is_greeting(text):

@@ -148,7 +148,7 @@ def goes_on(checks, program, room):
 
 
 def counts_runs(checks, program, room):
-    """Each run has tags of its own, one more than the greatest run that the journals have; behind the last run there is none."""
+    """Each run has tags of its own, one more than the greatest run that the journals have; after the last run there is none."""
     folder = fresh(room, "runs")
     path = net_runs.journal(folder, 0)
     writes = script(["servers", 1, 100], ["session", 5, []], ["write", 5, 0, put("a", 1)])

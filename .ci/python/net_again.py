@@ -1,4 +1,4 @@
-"""Runs whose sessions ask their last Writes again: behind replies that are lost, journals that fail, and kills."""
+"""Runs whose sessions ask their last Writes again: after replies that are lost, journals that fail, and kills."""
 import json
 import os
 import random
@@ -45,7 +45,7 @@ def lost_replies(checks, program, room):
 
 
 def failed_journals(checks, program, room):
-    """A Write whose journal fails is refused as long as its server is down. Behind the reopening it is known, or made now, and held once."""
+    """A Write whose journal fails is refused as long as its server is down. After the reopening it is known, or made now, and held once."""
     meddled = Meddled(program, room)
     text = script(*BEGIN, ["write", 0, 0, put("a", 1)], ["write", 0, 0, put("a", 2)], ["again", 0], ["reopen", 0], ["phase"], ["again", 0],
                   ["again", 0], ["log", 0])
@@ -92,7 +92,7 @@ def text(rounds, first):
 
 
 def whole_run(program, folder, path):
-    """The output of a run that isn't killed, and how long it took behind its first line."""
+    """The output of a run that isn't killed, and how long it took after its first line."""
     with net_runs.Running(program, folder, path) as running:
         output = running.line()
         begin = time.monotonic()
@@ -113,7 +113,7 @@ def held_by(output):
 
 
 def wrong_behind(program, folder, output, first):
-    """What is wrong with the folder behind a killed run that wrote this much, and whose values begin with this one."""
+    """What is wrong with the folder after a killed run that wrote this much, and whose values begin with this one."""
     status, listed, errors = net_runs.run(program, folder, script(["servers", 2, 65536], ["book"]))
     held = held_by(listed)
     if (status, errors) != (0, "") or not listed.endswith("clean\n") or held is None:
@@ -127,7 +127,7 @@ def wrong_behind(program, folder, output, first):
 
 
 def kills_of_agains(checks, program, room, number):
-    """Runs that are killed while sessions ask again: what was told as accepted is held, and no Write of theirs is held twice."""
+    """Runs that are killed while sessions ask again: what was reported as accepted is held, and no Write of theirs is held twice."""
     path, order, told, first, number = os.path.join(room, "agains.jsonl"), random.Random(number), 0, 1, max(number // 4, 1)
 
     def begin():

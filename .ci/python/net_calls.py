@@ -18,7 +18,7 @@ def connections(checks, program, room):
     told = "0 wrote 0:1 clock 1 deps 0,0\npulled 1 had 0\n" + "pulled 0 had 0\n" * 3
     told += "totals reads 0 writes 1 refusals 0 slips 0\nsettled 0 accepted 1 adopted 0\nsettled 1 accepted 0 adopted 0\nclean\n"
     checks.that("pulls of a script", meddled.run(fresh(room, "pulls"), text), (0, told, ""))
-    # (and each listener is told to stop by a connection)
+    # (and a connection tells each listener to stop)
     checks.that("how often a run of them connects", meddled.number("connect"), 2 * 2 + 2 + len(pulls) + 2)
 
 

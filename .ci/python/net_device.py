@@ -44,7 +44,7 @@ def starts(checks, program, room):
 
 
 def writes(checks, program, room):
-    """Each call of a Write failing, and of the reopening behind it."""
+    """Each call of a Write failing, and of the reopening after it."""
     meddled = Meddled(program, room)
     text = script(["servers", 1], ["session", 0, []], ["write", 0, 0, put("a", 1)], ["write", 0, 0, put("a", 2)], ["reopen", 0], ["phase"],
                   ["reopen", 0], ["phase"], ["write", 0, 0, put("a", 3)])
@@ -60,7 +60,7 @@ def writes(checks, program, room):
 
 
 class Disk:
-    """What is written of the files of a folder, and what of that is sure to be there behind a cut of power."""
+    """What is written of the files of a folder, and what of that is sure to be there after a cut of power."""
 
     def __init__(self, folder):
         self.files, self.told = {}, 0
@@ -87,13 +87,13 @@ class Disk:
         return [path for path in self.synced if path.endswith(".journal")]
 
     def left(self, way, path, whole):
-        """What a file that has this in the end may have behind a cut now."""
+        """What a file that has this in the end may have after a cut now."""
         synced, written = self.synced[path], self.written[path]
         if way == "names":
             return whole[:written]
         if way == "bytes":
             return whole[:synced]
-        # (before its header is synced nothing was told, and zeros are no journal)
+        # (before its header is synced nothing was reported, and zeros are no journal)
         if way == "zeros" and synced >= HEADER:
             return whole[:synced] + bytes(written - synced)
         return whole[:random.Random(written).randint(synced, written)]
@@ -110,13 +110,13 @@ def cut(disk, way, folder):
 
 
 def chosen(calls, order):
-    """The calls behind which power is cut: each that prints, and some others."""
+    """The calls after which power is cut: each that prints, and some others."""
     others = [at for at, call in enumerate(calls) if call[0] in ("open", "append", "sync")]
     return {at for at, call in enumerate(calls) if call[0] == "tell"} | set(order.sample(others, CUTS))
 
 
 def power(checks, program, room):
-    """Whenever power is cut, and whatever wasn't synced is lost then, each Write that was told is there."""
+    """Whenever power is cut, and whatever wasn't synced is lost then, each Write that was reported is there."""
     meddled, before, folder = Meddled(program, room), ({}, {}), fresh(room, "whole")
     for name in ("a new folder", "a folder with journals"):
         disk = Disk(folder)

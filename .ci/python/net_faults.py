@@ -131,7 +131,7 @@ def damaged(checks, program, room):
         whole = HEADER + (at - HEADER) // entry * entry
         checks.that("a byte that was changed long before the end", run(program, folder, LOG), told_damaged(folder, 0, whole, len(good) - whole))
         checks.that("nothing of it is cut", content(journal(folder, 0)), bytes(changed))
-    # The damage is told of its own journal, behind another that is whole.
+    # Its own journal is reported as damaged, after another that is whole.
     second = fresh(room, "damaged-second")
     with open(journal(second, 0), "wb") as it:
         it.write(good)
@@ -147,13 +147,13 @@ def damaged(checks, program, room):
 
 
 def told_damaged(folder, server, whole, behind):
-    """How a run ends that finds this journal damaged: its path, how many bytes of it are whole, and how many are behind them."""
+    """How a run ends that finds this journal damaged: its path, how many bytes of it are whole, and how many come after them."""
     line = "bayou: %s: it is whole up to byte %d, and the %d bytes behind that are damaged; nothing was changed\n" % (journal(folder, server), whole, behind)
     return 3, "", line + "bayou: device\n"
 
 
 def old(checks, program, room):
-    """Journals of the first two versions: what is held, their raising, behind each front of its mark, and a Write behind it."""
+    """Journals of the first two versions: what is held, their raising, after each front of its mark, and a Write after it."""
     for name, source, look, held_then in (("three", old_journals.THREE, LOG, [3]), ("empty", old_journals.EMPTY, LOGS, [0, 0])):
         folder, then = old_journals.copied(room, name, 0, source), old_journals.copied(room, name + "-raised", old_journals.MARK_BYTES, source)
         checks.that("old journals: " + name, run(program, folder, look), (0, logs(len(held_then), held_then), ""))
@@ -180,7 +180,7 @@ def old_pair(checks, program, room, name, source, versions, next_run):
 
 
 def old_logs(more):
-    """What a run of a log of each server prints behind its Writes, of the old journals, with so much more at the first one."""
+    """What a run of a log of each server prints after its Writes, of the old journals, with so much more at the first one."""
     told = "log 0 0:1 clock 1 updated\nlog 0 1:1 clock 1 updated\nlog 0 0:2 clock 2 updated\n" + "".join(more)
     told += "log 0 at %d,1\nlog 1 0:1 clock 1 updated\nlog 1 1:1 clock 1 updated\nlog 1 at 1,1\n" % (2 + len(more))
     told += "totals reads 0 writes %d refusals 0 slips 0\n" % len(more)

@@ -1,4 +1,4 @@
-"""Runs that are killed at random moments: the next run in the folder has each Write that was told as accepted, and those of the journals with
+"""Runs that are killed at random moments: the next run in the folder has each Write that was reported as accepted, and those of the journals with
 which the folder began."""
 import os
 import random
@@ -19,7 +19,7 @@ LISTED = re.compile(r"log ([01]) (\d+:\d+) clock (\d+) updated")
 
 
 def text(phases):
-    """Many short phases: what a phase does is told at its end."""
+    """Many short phases: what a phase does is printed at its end."""
     lines = [["servers", 2, 65536], ["session", 0, ["ryw", "mw"]], ["session", 1, []]]
     for phase in range(phases):
         lines += [["write", 0, 0, put("a", phase)], ["write", 1, 1, put("b", phase)]]
@@ -29,7 +29,7 @@ def text(phases):
 
 
 def wrong_behind(program, folder, output, before):
-    """What is wrong with the folder behind a run that wrote this much. `before` is what each server held as the run began, and becomes what
+    """What is wrong with the folder after a run that wrote this much. `before` is what each server held as the run began, and becomes what
     it holds now."""
     # (the last line may have been cut)
     told = [WROTE.fullmatch(line) for line in output.split("\n")[:-1]]
@@ -56,7 +56,7 @@ def wrong_behind(program, folder, output, before):
 
 
 def killed(program, folder, path, moment, is_told):
-    """What a run wrote until this moment, in seconds from its begin, or from its first line where a Write is to be told; and whether it still
+    """What a run wrote until this moment, in seconds from its begin, or from its first line where a Write is to be reported; and whether it still
     ran then."""
     with net_runs.Running(program, folder, path) as running:
         output = running.line() if is_told else ""
@@ -68,7 +68,7 @@ def killed(program, folder, path, moment, is_told):
 
 
 def whole_run(checks, program, room, path):
-    """How long a run takes that isn't killed: to its first line, and behind that."""
+    """How long a run takes that isn't killed: to its first line, and after that."""
     begin = time.monotonic()
     running = net_runs.Running(program, fresh(room, "whole"), path)
     output = running.line()
@@ -91,7 +91,7 @@ def begun(room, name, source):
 
 
 def kills(checks, program, room, number):
-    """Most runs are killed behind a Write that they told of, and before their end; each fourth at any moment of its begin."""
+    """Most runs are killed after a Write that they told of, and before their end; each fourth at any moment of its begin."""
     path = os.path.join(room, "killed.jsonl")
     with open(path, "w", encoding="ascii") as it:
         it.write(text(PHASES))

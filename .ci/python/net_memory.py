@@ -9,7 +9,7 @@ from net_runs import fresh, put, script
 SCRIPT = script(["servers", 2, 100], ["session", 0, ["ryw"]], ["write", 0, 0, put("a", 1)], ["phase"], ["read", 0, 0, "a"],
                 ["write", 0, 0, put("a", 2)], ["again", 0], ["totals"], ["judge"], ["totals"], ["survey"], ["reopen", 0], ["totals"], ["reopen", 1])
 TOTALS = r"totals reads \d writes \d refusals \d slips 0"
-# What stands in each line of a run, where the server, or the session itself, may lack memory behind the first.
+# What stands in each line of a run, where the server, or the session itself, may lack memory after the first.
 LINES = [r"0 wrote 0:1 clock 1 deps 0,0", r"0 (read a num 1 at 1,0|refused memory|lost)", r"0 (wrote 0:2 clock 2 deps 1,0|refused memory|lost)",
          r"0 (again none|wrote 0:2 clock 2 deps 1,0)", TOTALS, "clean", TOTALS, "survey 0 ryw ok mr ok wfr ok mw ok",
          "reopen refused (notdown|memory)", TOTALS, "reopen refused (notdown|memory)", TOTALS, "settled 0 accepted 2 adopted 0",
@@ -58,7 +58,7 @@ def is_front(lines, all_wanted=LINES):
 
 
 def wrong_in(told, faults, all_wanted=LINES):
-    """The first of these runs that ends otherwise than it must; none where each does. It ends whole, or by one of these faults behind a front."""
+    """The first of these runs that ends otherwise than it must; none where each does. It ends whole, or by one of these faults after a front."""
     for number, (status, lines, errors) in enumerate(told, 1):
         is_whole = (status, len(lines), errors) == (0, len(all_wanted), "")
         if status == "hangs":
@@ -77,7 +77,7 @@ MEMORY, NETWORK = "bayou: memory\n", "bayou: network\n"
 
 
 def memory(checks, program, room):
-    """Want of memory ends a run as such, behind all that was printed before; or it is told in a line."""
+    """Want of memory ends a run as such, after all that was printed before; or a line reports it."""
     whole, told = Wanting(program, room, "first").all()
     checks.that("a run with memory enough", (whole[0], is_front(whole[1]), len(whole[1]), whole[2]), (0, True, len(LINES), ""))
     checks.that("a run whose first thread lacks memory, at its start too", wrong_in(told, [MEMORY]), None)
@@ -108,7 +108,7 @@ def starts(checks, program, room):
 
 
 def is_read(lines):
-    """Whether what was acknowledged, and then pulled by one pull at least, is what is read, where a read is told."""
+    """Whether what was acknowledged, and then pulled by one pull at least, is what is read, where a read is printed."""
     if len(lines) < 5 or not lines[1].startswith("0 wrote") or not lines[4].startswith("0 read"):
         return True
     return lines[4] == "0 read b num 2 at 2,0" or not any(line.startswith("pulled") for line in lines[2:4])

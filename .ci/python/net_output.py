@@ -13,7 +13,7 @@ WHOLE = "".join(text for text, _ in PRINTED)
 
 
 def writes_by(end):
-    """How many Writes are there once a call failed behind so many bytes: what is printed of a phase comes behind all that it does."""
+    """How many Writes are there once a call failed after so many bytes: what is printed of a phase comes after all that it does."""
     for text, number in PRINTED:
         if end < len(text):
             return number
@@ -27,7 +27,7 @@ def left(number):
 
 
 def bytes_told(checks, program, room):
-    """Each byte of the output: what was told before it is a front, its fault is told, nothing is told behind it, and what was done is there."""
+    """Each byte of the output: what was printed before it is a front, its fault is reported, nothing is printed after it, and what was done is there."""
     meddled, folder = Meddled(program, room), fresh(room, "short")
     checks.that("an output that takes a byte at a call", meddled.run(folder, SCRIPT, "tell 0 short"), (0, WHOLE, ""))
     checks.that("its calls", meddled.number("tell"), len(WHOLE))

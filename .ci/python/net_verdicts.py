@@ -50,7 +50,7 @@ def of_journals(checks, program, room):
         checks.that("the audit of the book: " + name, net_runs.call(program, ["audit", path]), (2, said, ""))
 
 
-# Session 0 is told of a Write of the server's that isn't there yet: the next one.
+# Session 0 hears of a Write of the server's that isn't there yet: the next one.
 AHEAD = [["servers", 1], ["session", 0, ["ryw"]], ["session", 1, []], ["write", 0, 0, put("a", 1)]]
 TOLD = "0 wrote 0:2 clock 2 deps 1\n"
 FORGED = "judge refused forged 0\n"
@@ -67,7 +67,7 @@ def of_replies(checks, program, room):
     that("the verdict at the end on a Write that isn't held", [], "reply 1 ahead", ONE + settled(1) + FORGED)
     that("a verdict in a phase on it", [["judge"], ["totals"]], "reply 1 ahead", FORGED + ONE + ONE + settled(1) + FORGED)
     that("a survey in a phase on it", [["survey"]], "reply 1 ahead", FORGED + ONE + settled(1) + FORGED)
-    # Then that Write is made, and its session isn't told: all is clean in the end.
+    # Then that Write is made, and its session doesn't learn it: all is clean in the end.
     made = [["phase"], ["write", 1, 0, put("a", 2)]]
     end = "1 lost\n" + ONE + settled(2) + CLEAN
     for word in ("judge", "survey"):

@@ -1,4 +1,4 @@
-"""Runs that wait in a call: the lines of the phases before have come, a terminal is told, and journals may change meanwhile."""
+"""Runs that wait in a call: the lines of the phases before have come, a terminal shows it, and journals may change meanwhile."""
 import os
 import pty
 import re
@@ -10,7 +10,7 @@ from net_meddled import Meddled
 from net_runs import Running, content, fresh, journal, put, script
 from net_verdicts import own
 
-# A terminal is told of two seconds in so many.
+# A terminal shows two seconds in so many.
 WAITS = 2.6
 
 
@@ -75,7 +75,7 @@ def phases(checks, program, room):
 
 
 def short(checks, program, room):
-    """Of a run of less than a second nothing is told."""
+    """Of a run of less than a second nothing is shown."""
     terminal = Terminal()
     running = terminal.running(program, fresh(room, "short"), written(room, ["servers", 1]), None)
     told = "totals reads 0 writes 0 refusals 0 slips 0\nsettled 0 accepted 0 adopted 0\nclean\n"

@@ -21,7 +21,7 @@ def raised(before, version=frames.NEWEST_VERSION):
 
 
 def copied(room, name, kept=0, source=BOTH, versions=()):
-    """A new folder with the journals of this one, raised to each of these versions, and with so many bytes of the newest mark behind each."""
+    """A new folder with the journals of this one, raised to each of these versions, and with so many bytes of the newest mark after each."""
     folder = fresh(room, name)
     for file, before in contents(source).items():
         for version in versions:

@@ -85,7 +85,7 @@ def main():
     checks.that("the synopsis of the manual", synopsis(), set(helps) - {""})
     checks.that("the completions for bash", of_bash(), helps)
     checks.that("the completions for zsh", of_zsh(), helps)
-    # (what is left open is a name: of a folder behind --dir, else of a file)
+    # (what is left open is a name: of a folder after --dir, else of a file)
     checks.that("what bash offers behind --dir", "python" in completed("bayou", "net", "--dir", "py"), True)
     checks.that("what bash offers for a file", "pages.py" in {it.rpartition("/")[2] for it in completed("bayou", "run", "python/pages")}, True)
     checks.that("what bash offers behind help", completed("bayou", "help", ""), set(helps) - {""})

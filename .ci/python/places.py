@@ -157,7 +157,7 @@ class Places:
         self.that("a told end", server.end()[0], 0)
 
     def the_rest_is_dropped(self):
-        """What comes behind a bad frame is dropped, and ends no connection with an error, which could cost the replies on their way."""
+        """What comes after a bad frame is dropped, and ends no connection with an error, which could cost the replies on their way."""
         server = self.house()
         connection = socket.create_connection(("127.0.0.1", server.port), SECONDS)
         connection.settimeout(SECONDS)
@@ -179,7 +179,7 @@ class Places:
         self.that("a told end", server.end()[0], 0)
 
     def untold_once(self):
-        """That a peer tells no digests is told, and once."""
+        """That a peer tells no digests is reported, and once."""
         peer = Sender(1, 2, frames.ZERO, [])
         server = Server(self.program, self.folder(), 0, servers=2, port=free_port(), peers=[(1, int(peer.address.rsplit(":", 1)[1]))], new=True, words=["--every", "1"])
         self.that("a server with such a peer", server.serving() is not None)

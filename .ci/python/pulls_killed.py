@@ -1,4 +1,4 @@
-"""Servers that are killed within pulls, some of them with a cut of power: what was told is there, and a front of what was being pulled."""
+"""Servers that are killed within pulls, some of them with a cut of power: what was reported is there, and a front of what was being pulled."""
 import os
 import random
 import time
@@ -44,7 +44,7 @@ class Kill:
         return None if self.serving is None else self.serving.split(" holds ")[1]
 
     def told_too_early(self):
-        """What a reader was told of before its entries were synced: how many Writes, and how many were synced."""
+        """What a reader heard of before its entries were synced: how many Writes, and how many were synced."""
         calls, (_, ends) = Calls(self.calls, self.path, len(self.before)), entries(self.whole)
         ends = [end - 1 for end in ends[1:]]
         wrong = []
@@ -93,14 +93,14 @@ class Killed:
             self.goes_on_to_all(folder, server, held, writes, expected)
 
     def killed_once(self, name, kill, held, expected):
-        """What was there as it began is there, and it held a front of what it pulled; nobody was told of what wasn't synced."""
+        """What was there as it began is there, and it held a front of what it pulled; nobody heard of what wasn't synced."""
         bodies, _ = entries(kill.whole)
         self.that("the server starts before %s with what was left" % name, kill.holds(), vector_of(held))
         self.that("the journal behind %s is a front of what was pulled" % name, (bodies == expected[:len(bodies)], len(bodies) >= held), (True, True))
         self.that("what was told before %s was synced" % name, kill.told_too_early(), [])
 
     def left(self, name, kill, held):
-        """How many Writes are left behind the cut: no fewer than any reader was told of."""
+        """How many Writes are left after the cut: no fewer than any reader heard of."""
         left = len(entries(content(kill.path))[0])
         told = max([count for count, _ in kill.reader.told], default=0)
         self.that(name, left >= told and left <= held)

@@ -32,7 +32,7 @@ def vector_of(number):
 
 
 def name_of(number):
-    """The name of the Write of this number, from 1 on, as it is told."""
+    """The name of the Write of this number, from 1 on, as it is printed."""
     return "%d:%d" % (ORIGINS[(number - 1) % len(ORIGINS)], (number - 1) // len(ORIGINS) + 1)
 
 

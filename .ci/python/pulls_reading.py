@@ -1,4 +1,4 @@
-"""Clients that read while a server pulls: what they are told, and for how many syncs they wait."""
+"""Clients that read while a server pulls: what they hear, and for how many syncs they wait."""
 import os
 import socket
 import struct
@@ -17,7 +17,7 @@ MOST_SYNCS, FEW = 1, 100
 
 
 class Reader(threading.Thread):
-    """A client that reads again and again, and keeps how many Writes it was told of, and how long the file of the calls was just behind that."""
+    """A client that reads again and again, and keeps how many Writes it heard of, and how long the file of the calls was just after that."""
 
     def __init__(self, port, calls):
         super().__init__(daemon=True)

@@ -34,7 +34,7 @@ class Left:
         self.held, self.end, self.behind = len(bodies), ends[-1], bytes_left[ends[-1]:]
 
     def wants(self):
-        """How many bytes the entry has whose length stands behind the whole ones."""
+        """How many bytes the entry has whose length stands after the whole ones."""
         return 2 + int.from_bytes(self.behind[:2], "big") + 32
 
     def told(self):

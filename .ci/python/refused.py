@@ -24,7 +24,7 @@ ITEMS, OPENING_CALLS, SPARE = 3, 4, "2"
 
 
 def without_cause(told):
-    """What is told, but for the line that names the cause of a fault, which `.ci/check` looks at."""
+    """What is reported, but for the line that names the cause of a fault, which `.ci/check` looks at."""
     return CAUSE.sub(r"\1", told.decode())
 
 

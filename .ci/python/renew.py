@@ -260,7 +260,7 @@ class Tries:
         self.that("a Write more is held", counts, "%d,1,0" % told[1])
 
     def strangers(self, old, servers, first, state):
-        """Who comes with the old store's key, with its state, or as one of its servers, is told that this is another store."""
+        """Who comes with the old store's key, with its state, or as one of its servers, learns that this is another store."""
         status, printed, told = self.connect(servers, "get kept\n", ["--key", first, "--state", state])
         self.that("an old session isn't served", (status, "another store" in told), (1, True))
         peers = [(0, servers[0].port), (1, servers[1].port)]

@@ -28,7 +28,7 @@ sys.path.insert(0, os.path.join("..", "clients", "python"))
 import bayou  # noqa: E402
 
 PUT = {"update": [["put", "a", 1]]}
-# What is told of a log that fills up.
+# What is reported of a log that fills up.
 HOW_ON = "; then raise --limit, or make a new store with bayou renew"
 
 
@@ -481,7 +481,7 @@ class Tries(Holding, Greeting, Keys, Differing, Lookups, Places):
         self.that("a told end behind a full disk", server.end()[0], 0)
 
     def killed(self):
-        """Servers are killed in turn under writers: what was told as accepted stays, and what was lost and asked again acts once."""
+        """Servers are killed in turn under writers: what was reported as accepted stays, and what was lost and asked again acts once."""
         folder = self.folder()
         servers, start = self.fleet(folder, until=False)
         for server in servers:
@@ -530,7 +530,7 @@ def written_in(folder):
 
 
 def last_program(session):
-    """The program of the session's last Write, which was told as accepted: one that only adds one."""
+    """The program of the session's last Write, which was reported as accepted: one that only adds one."""
     program = {"update": [["put", "n", 0]]} if session.place == 1 else {"check": [["absent", "n"]], "merge": [{"ops": [["put", "n", ["plus", "n", 1]]]}]}
     return bayou.program_bytes(program)
 
@@ -581,8 +581,8 @@ def held_of(write):
 
 
 def write_on(addresses, number, stop, told, entries, pause):
-    """Writes at one server after another, and asks again what was lost, until it is told to stop, and reads now and then; keeps each name that
-    was told, and the entries of an audit, and rests behind each."""
+    """Writes at one server after another, and asks again what was lost, until it is asked to stop, and reads now and then; keeps each name that
+    was reported, and the entries of an audit, and rests after each."""
     session = bayou.Session(addresses, asks=bayou.ASKS, number=number, timeout=5)
     asks = list(bayou.ASKS)
     seed = random.Random(number)

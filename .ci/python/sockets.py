@@ -210,7 +210,7 @@ def fills(checks, program, folder):
 
 
 def asks_again(checks, program, folder):
-    """A Write that is asked again acts once, also behind a connection that is lost and a server that is killed, and its tag is used up."""
+    """A Write that is asked again acts once, also after a connection that is lost and a server that is killed, and its tag is used up."""
     path = os.path.join(folder, "again")
     tag, other, third = (3, 1, 7), (4, 1, 7), (3, 2, 1)
     used = frames.refused(frames.TAG_USED)

@@ -106,7 +106,7 @@ class Standings:
         self.told("`connect` goes on with python's", store.at, ["wait 20"], ["0 final %d:%d update" % (accepted.origin, accepted.seq)], words=words)
 
     def out_of_order(self):
-        """A server that takes Writes while it sends others sends those behind, that belong before: what it sends then makes nothing final."""
+        """A server that takes Writes while it sends others sends those last, though they belong before: what it sends then makes nothing final."""
         def write(origin, seq, clock, deps):
             return origin, seq, clock, frames.counts(*deps), ([], [("put", "k", ("lit", seq))], [])
         first, other, second = write(0, 1, 1, ()), write(1, 1, 1, ()), write(0, 2, 2, (1,))
@@ -122,7 +122,7 @@ class Standings:
                 sender.close()
 
     def one_room(self):
-        """Two persons, one room, at servers that are apart: both have it at first, and once the servers have met each is told once that it is final, one of them
+        """Two persons, one room, at servers that are apart: both have it at first, and once the servers have met each learns once that it is final, one of them
         as something else than at first."""
         store, states = Apart(self), {who: os.path.join(self.room, "one_room." + who) for who in ("ann", "ben")}
         store.turn(1)
@@ -152,7 +152,7 @@ class Standings:
         store.end()
 
     def one_room_killed(self):
-        """The same over calls that are killed at any moment: each is told, and once more only behind a call that was killed as it told it."""
+        """The same over calls that are killed at any moment: each is reported, and once more only after a call that was killed as it told it."""
         store = Apart(self)
         store.turn(1)
         chance, told, kills = random.Random(8585), {"ann": [], "ben": []}, 0
@@ -194,7 +194,7 @@ class Standings:
         store.end()
 
     def killed_waiting(self):
-        """Calls that are killed at any moment: each own Write is told as final once, or once more for each call that was killed."""
+        """Calls that are killed at any moment: each own Write is reported as final once, or once more for each call that was killed."""
         store, state = Apart(self), os.path.join(self.room, "killed_waiting")
         words = ["--state", state, "--session", "all"]
         call = [self.program, "connect"] + [word for index, address in store.at for word in ("--server", "%d=%s" % (index, address))] + words
@@ -220,7 +220,7 @@ class Standings:
         store.end()
 
     def forgotten(self):
-        """No more than 64 own Writes are kept: the oldest goes, which is told."""
+        """No more than 64 own Writes are kept: the oldest goes, which is reported."""
         store, state = Apart(self), os.path.join(self.room, "forgotten")
         store.servers[2].end()
         status, printed, wrong = self.call(store.at[:2], ["put k %d" % number for number in range(66)] + ["mine"], ["--state", state], standings=True)

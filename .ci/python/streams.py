@@ -80,7 +80,7 @@ def shaped(dice):
 
 
 def fronted(dice):
-    """Requests, and bytes at random behind them."""
+    """Requests, and bytes at random after them."""
     return requests(dice) + noise(dice)
 
 
@@ -110,7 +110,7 @@ class Stream:
 
     def __init__(self, number):
         self.dice = random.Random("%s %d" % (SEED, number))
-        # One in eight goes away as soon as it has sent, and reads nothing: it has no Write, since nobody would be told of it.
+        # One in eight goes away as soon as it has sent, and reads nothing: it has no Write, since nobody would hear of it.
         self.is_gone = number % 8 == 7
         self.sent = requests(self.dice, False) if self.is_gone else KINDS[number % 8](self.dice)
         self.came, self.fault = b"", None

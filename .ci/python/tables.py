@@ -91,7 +91,7 @@ class Case:
         self.program, self.base, self.kind, self.accept = program, base, kind, accept
 
     def differs(self, path, found, wanted):
-        """What is to be told where that isn't what is wanted: the file, the line, and both."""
+        """What to report where that isn't what is wanted: the file, the line, and both."""
         if found == wanted:
             return []
         if self.accept:
@@ -208,7 +208,7 @@ class Lines(Rows):
         return self.before.encode() + said
 
     def answer(self, row):
-        """What is told of the row behind `bayou: `; None where it is taken, and else all that came."""
+        """What is reported of the row after `bayou: `; None where it is taken, and else all that came."""
         said = self.bytes_of(row.partition(" => ")[0])
         came = self.program.call(self.words, said, b"" if any("{}" in word for word in self.words) else said)
         err = came.err.decode(errors="replace")
@@ -219,7 +219,7 @@ class Lines(Rows):
         return err[len("bayou: "):-1]
 
     def must(self, row):
-        """What is to be told: of the row's own line, where it names no other."""
+        """What is to be reported: of the row's own line, where it names no other."""
         told = row.partition(" => ")[2]
         return told if not told or told.startswith("line ") else "line %d: %s" % (self.before.count("\n") + 1, told)
 
@@ -241,7 +241,7 @@ class Checked(Rows):
         return re.sub(rb"\\x([0-9a-f]{2})", lambda mark: bytes([int(mark.group(1), 16)]), text)
 
     def answer(self, row):
-        """What is told of the row's line; None where nothing is."""
+        """What is reported of the row's line; None where nothing is."""
         number = self.before.count("\n") + 1
         came = self.program.call(["check", "--json", "-"], b"", self.before.encode() + self.line_of(row) + b"\n")
         told = [json.loads(line) for line in came.out.decode().split("\n")[:-1]]

@@ -1,4 +1,21 @@
-"""The scripts that are measured, made anew with a fixed seed: lines of JSON, and the command that runs them."""
+"""The scripts that are measured, made anew with a fixed seed: lines of JSON, and the command that runs them.
+
+- writes: 65,000 Writes at one server, to 10 keys or to 65,000
+- bookings with a fallback: 30,000 Writes with a check and three alternatives
+- courses with places: 65,000 Writes that each take a place of a hundred, if one is left: each check counts the keys of one course
+- places given back: 30,000 Writes that take a place and give one back
+- full programs: 10,000 of the longest Writes that there may be
+- many conditions: 15,000 Writes with forty conditions, of which each list fails at its last
+- reads, a log of all: 65,000 of each
+- restarts: twelve, of up to 60,000 Writes; after late Writes: eight, on journals in which 2,000 Writes stand late
+- reopenings: 200 Writes that fail, and are adopted
+- a bad last line: 65,000 lines are read, and nothing is run
+- servers apart, servers that meet: sixteen servers with a session each; and sixteen that 200 times write, pull around twice, and read
+- a pull of 60,000, all sent again: another server takes 60,000 Writes, none of them late; 30,000, and a resend of them
+- judged, surveyed, booked: 30,000 operations, and what closes a run
+- an audit of 65,536 entries: a file of sixteen servers, all clean
+- late Writes, one key or own keys, N: two servers write N times each while they are apart, pull both ways, and one lists all
+"""
 import json
 import random
 
@@ -213,7 +230,7 @@ def judged(count=30_000):
 
 
 def audit_file(entries=MAX_ENTRIES, reads_each=15):
-    """Servers that meet behind each round: in each a session of each writes, and then reads so often. Each dump has all Writes."""
+    """Servers that meet after each round: in each a session of each writes, and then reads so often. Each dump has all Writes."""
     rounds = entries // (SERVERS * (1 + reads_each))
     yield line("servers", SERVERS)
     for turn in range(1, rounds + 1):

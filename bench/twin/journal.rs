@@ -84,12 +84,12 @@ fn header_of(server: u8) -> [u8; HEADER_BYTES] {
     header
 }
 
-/// The digest of the entry behind the one with the digest `before`.
+/// The digest of the entry after the one with the digest `before`.
 fn link(before: &Digest, body: &[u8]) -> Digest {
     digest_of(&[before, &(body.len() as u16).to_be_bytes(), body])
 }
 
-/// Where the bodies of a content lie, and which digest stands before and behind each of them.
+/// Where the bodies of a content lie, and which digest stands before and after each of them.
 struct Chain {
     ends: Vec<usize>,
     digests: Vec<Digest>,
@@ -134,7 +134,7 @@ impl Chain {
 pub struct Opened {
     content: Vec<u8>,
     chain: Chain,
-    /// How many bytes stood behind the chain.
+    /// How many bytes stood after the chain.
     pub dropped: usize,
 }
 

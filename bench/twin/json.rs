@@ -65,7 +65,7 @@ impl<'a> Reader<'a> {
         is_there.then_some(Json::Other)
     }
 
-    /// Behind a member: whether another one comes. None where neither a comma nor the closing byte does.
+    /// After a member: whether another one comes. None where neither a comma nor the closing byte does.
     fn goes_on(&mut self, closing: u8) -> Option<bool> {
         self.skip_blanks();
         if self.eat(b',') {

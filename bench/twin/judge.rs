@@ -61,7 +61,7 @@ impl<'a> Dump<'a> {
         })
     }
 
-    /// Whether the Write may stand behind those that are there, as the next of the server's.
+    /// Whether the Write may stand after those that are there, as the next of the server's.
     fn may_follow(&self, write: &Write, count: u8, server: usize) -> bool {
         let own = usize::from(write.wid.origin);
         let held = self.vector();
@@ -221,7 +221,7 @@ impl<'a> Evidence<'a> {
         servers.filter_map(|server| Some((server, self.demand_at(entry, server)?)))
     }
 
-    /// The least name of a Write that the entry told of and that doesn't meet the demand. Of one origin all behind it don't either.
+    /// The least name of a Write that the entry told of and that doesn't meet the demand. Of one origin all after it don't either.
     fn least_unmet(&self, entry: &Entry, demand: &Demand) -> Option<Wid> {
         if let What::Write(wid, stamp, _) = entry.what {
             return (!demand.is_met_by(wid, stamp)).then_some(wid);

@@ -129,7 +129,7 @@ fn command(word: &str, behind: &[Json]) -> Read<Command> {
     })
 }
 
-/// An array's first member, which is a text, and what stands behind it.
+/// An array's first member, which is a text, and what stands after it.
 fn word_of<'a>(value: &'a Json) -> Read<(&'a str, &'a [Json<'a>])> {
     match array(value)? {
         [Json::Text(word), behind @ ..] => Ok((word, behind)),

@@ -1,4 +1,4 @@
-//! A server: what it holds, behind its journal (docs/TROUBLE.md), and how it takes Writes from another (docs/GUARANTEES.md).
+//! A server: what it holds, with its journal (docs/TROUBLE.md), and how it takes Writes from another (docs/GUARANTEES.md).
 
 use crate::journal::{self, Device, Journal, Opened};
 use crate::line::SESSIONS;
@@ -71,7 +71,7 @@ impl Replica {
         self.writes.push(write);
     }
 
-    /// Applies what was added: the Writes behind the least of it in stamp order are taken back, and applied again in their place.
+    /// Applies what was added: the Writes after the least of it in stamp order are taken back, and applied again in their place.
     fn apply_added(&mut self) {
         let added = self.order.len() as u32..self.writes.len() as u32;
         let Some(least) = added.clone().map(|at| self.stamp_at(at)).min() else {
@@ -145,7 +145,7 @@ impl Answer {
         self.ends.push(self.bytes.len());
     }
 
-    /// Keeps so many Writes at the most, and tells whether the stream is cut: behind them comes nothing, no End either.
+    /// Keeps so many Writes at the most, and tells whether the stream is cut: after them comes nothing, no End either.
     pub fn cut_after(&mut self, count: usize) -> bool {
         let is_cut = count <= self.ends.len();
         self.ends.truncate(count);
@@ -167,7 +167,7 @@ pub struct Tag {
     pub place: u32,
 }
 
-// What a record of a journal begins with: of another server's Write, and of an own one, behind which comes the tag.
+// What a record of a journal begins with: of another server's Write, and of an own one, after which comes the tag.
 const OTHERS: u8 = 0;
 const OWN: u8 = 1;
 const RUN: u32 = 1;
@@ -179,7 +179,7 @@ impl Tag {
         bytes.extend(self.place.to_be_bytes());
     }
 
-    /// The tag that these bytes begin with, and what stands behind it.
+    /// The tag that these bytes begin with, and what stands after it.
     fn decode(bytes: &[u8]) -> Option<(Tag, &[u8])> {
         let (session, rest) = bytes.split_first()?;
         let (run, rest) = rest.split_first_chunk::<4>()?;

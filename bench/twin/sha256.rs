@@ -19,7 +19,7 @@ const ROUND_CONSTANTS: [u32; 64] = [
     0x748f82ee, 0x78a5636f, 0x84c87814, 0x8cc70208, 0x90befffa, 0xa4506ceb, 0xbef9a3f7, 0xc67178f2,
 ];
 
-/// The digest of the pieces, one behind the other.
+/// The digest of the pieces, one after the other.
 pub fn digest_of(pieces: &[&[u8]]) -> Digest {
     let mut hash = Sha256 {
         state: FIRST_STATE,

@@ -50,7 +50,7 @@ impl Write {
         }
     }
 
-    /// Puts its bytes behind those that are there.
+    /// Puts its bytes after those that are there.
     pub fn encode(&self, bytes: &mut Vec<u8>) {
         bytes.push(self.wid.origin);
         bytes.extend(self.wid.seq.to_be_bytes());

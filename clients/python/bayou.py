@@ -26,7 +26,7 @@ from typing import Any, Callable, Dict, Iterable, List, Optional, Sequence, Tupl
 import bayou_views
 from bayou_views import Change, join as _join  # noqa: F401
 
-# What a key has, what is told of a Write, and what a program is written as.
+# What a key has, what is reported of a Write, and what a program is written as.
 Value = Union[int, str]
 Vector = Tuple[int, ...]
 Program = Dict[str, list]
@@ -51,7 +51,7 @@ _MAX_WRITE = 5_844
 _MAX_TEXT = 32
 # How many rows a page has at the most, and all pages of a listing: a server holds so many Writes, of which each changes eight keys at the most.
 _PAGE_ROWS, _MAX_ROWS = 121, 8 * _MAX_COUNT
-# What a file begins with in which sessions are kept, how many bytes its entries have at the most, and behind how many of them it is written anew.
+# What a file begins with in which sessions are kept, how many bytes its entries have at the most, and after how many of them it is written anew.
 _HEADER, _DIGEST, _MAX_BODY, _MAX_KEPT = b"BAYOUJNL\x03\x00", 32, 8_192, 65_536
 # More bytes than a file of views has.
 _MAX_VIEWS = 65_536
@@ -93,7 +93,7 @@ class Lost(BayouError):
 
 
 class Refused(BayouError):
-    """The server refused; nothing was done, but for `Down` and `JournalFailed`, behind which a Write may be in doubt."""
+    """The server refused; nothing was done, but for `Down` and `JournalFailed`, after which a Write may be in doubt."""
 
 
 class Down(Refused):
@@ -607,7 +607,7 @@ class _Connection:
 
     @contextlib.contextmanager
     def closed_where_lost(self):
-        """Closes the connection where a reply doesn't come whole: what came behind it would answer the next request."""
+        """Closes the connection where a reply doesn't come whole: what came after it would answer the next request."""
         try:
             yield
         except OSError as error:
@@ -759,7 +759,7 @@ def _entry(before, body):
 
 
 def _body_at(before, data, at):
-    """The body of the entry that stands there behind that digest, if one does."""
+    """The body of the entry that stands there after that digest, if one does."""
     length = int.from_bytes(data[at:at + 2], "big")
     end = at + 2 + length
     if not 1 <= length <= _MAX_BODY or len(data) < end + _DIGEST:
@@ -769,7 +769,7 @@ def _body_at(before, data, at):
 
 
 def _chain(data):
-    """The bodies of the entries, one behind another, the digest of the last, and where they end."""
+    """The bodies of the entries, one after another, the digest of the last, and where they end."""
     bodies, last, at = [], hashlib.sha256(_HEADER).digest(), len(_HEADER)
     body = _body_at(last, data, at)
     while body is not None:
@@ -954,12 +954,12 @@ class _State:
         return self.sessions[number][0] if number in self.sessions else None
 
     def check(self):
-        """That something can be kept: behind a call that failed nothing is kept any more."""
+        """That something can be kept: after a call that failed nothing is kept any more."""
         if self.is_down:
             raise self._bad("it is closed, or a call of it failed")
 
     def keep(self, body):
-        """Keeps a session behind all else, and makes that last."""
+        """Keeps a session after all else, and makes that last."""
         self.check()
         self.is_down = True
         with self._bad_where_failed():
@@ -998,8 +998,8 @@ class Session(bayou_views.Finality):
     doesn't prove that it has it is a `Stranger`. A server that is silent, or drips, is `Lost` after `timeout` seconds, and a
     second more for each 4,096 bytes that came; for a minute it is asked after all others then, where any server may be asked.
 
-    `state` is a file in which the session is kept from one run of a program to the next, the same as of `bayou connect --state`: what the session was told
-    is kept before it is told here, and a Write before it is sent. Its number is 0 there, if none is given, and it asks for what it asked for first. What is
+    `state` is a file in which the session is kept from one run of a program to the next, the same as of `bayou connect --state`: what the session heard
+    is kept before it is returned here, and a Write before it is sent. Its number is 0 there, if none is given, and it asks for what it asked for first. What is
     known as final is kept beside it, in a file of its name and `.views`.
     """
 
@@ -1062,7 +1062,7 @@ class Session(bayou_views.Finality):
 
     @contextlib.contextmanager
     def _kept(self):
-        """Keeps the session as it was told before anybody hears of it, also where it was told nothing."""
+        """Keeps what the session heard before anybody else does, also where it heard nothing."""
         try:
             yield
         finally:
@@ -1123,7 +1123,7 @@ class Session(bayou_views.Finality):
         self.has_read, self.seen = _join(self.has_read, vector), vector
 
     def write(self, program: Program, server: int = 0) -> Accepted:
-        """Has the program accepted as a Write at that server. Behind `Lost`, and behind a refusal, `again` asks for the same Write."""
+        """Has the program accepted as a Write at that server. After `Lost`, and after a refusal, `again` asks for the same Write."""
         body = program_bytes(program)
         self._link(server)
         self._begin()
@@ -1132,7 +1132,7 @@ class Session(bayou_views.Finality):
 
     def again(self) -> Accepted:
         """Asks the last Write again, at its server and under its tag: however often it is asked, it is one Write. There must be one that
-        wasn't told as accepted, and nothing else asked since."""
+        wasn't reported as accepted, and nothing else asked since."""
         if self.pending is None:
             raise BayouError("there is no Write to ask again")
         server, tag, body = self.pending
@@ -1229,7 +1229,7 @@ class Session(bayou_views.Finality):
 
     def claim(self, keys: Sequence[str], value: Value, server: int = 0) -> Optional[str]:
         """Has the first of up to five keys that is absent get the value, by a Write at that server, and tells which one got it there; None where each has
-        something else. Where one has the value already, that one is told, and nothing is written. What is told is tentative, as each outcome is. Where it
+        something else. Where one has the value already, that one is returned, and nothing is written. The answer is tentative, as each outcome is. Where it
         fails, and there is a Write to ask again, ask `again`; then the same claim tells what it got."""
         return self._claim(keys, value, lambda key: self.read(key, server), lambda program: self.write(program, server))
 

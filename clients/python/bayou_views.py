@@ -30,7 +30,7 @@ class NoViews(ValueError):
 
 
 class Own:
-    """A Write of one's own that wasn't told as final yet. `told` is what was told of it last: "update", "merge M", "none", or "untold"."""
+    """A Write of one's own that wasn't reported as final yet. `told` is what was reported of it last: "update", "merge M", "none", or "untold"."""
 
     def __init__(self, origin: int, seq: int, clock: int, told: str = "untold"):
         self.origin, self.seq, self.clock, self.told = origin, seq, clock, told
@@ -70,7 +70,7 @@ def _told(outcome: "Outcome") -> str:
 
 
 class Views:
-    """The views of all servers, what is known as final by them, and the own Writes that weren't told as final yet.
+    """The views of all servers, what is known as final by them, and the own Writes that weren't reported as final yet.
 
     `count` is how many servers the store has, or None as long as no server said so. `final` says of each server how many of its Writes are final."""
 
@@ -84,7 +84,7 @@ class Views:
         self.earlier: Dict[int, Vector] = {}
 
     def is_of(self, count: int) -> bool:
-        """Whether the store has so many servers, as far as it is known. The first count that is told is the store's."""
+        """Whether the store has so many servers, as far as it is known. The first count that comes is the store's."""
         if self.count is None:
             self.count = count
             self.views = {server: view for server, view in self.views.items() if self._is_view(server, view)}
@@ -115,7 +115,7 @@ class Views:
         self.own = [one for one in self.own if (one.origin, one.seq) != (own.origin, own.seq)] + [own]
 
     def tells(self, own: Own, outcome: "Outcome") -> Optional[Change]:
-        """The change where this is to be told of the Write, by a server that holds all that is final. It counts as told then; one that was told as
+        """The change where this is to be reported of the Write, by a server that holds all that is final. It counts as reported then; one reported as
         final isn't followed any more."""
         is_final = self.is_final(own.origin, own.seq)
         if not is_final and own.told == _told(outcome):
@@ -244,7 +244,7 @@ class Finality:
     _of_another_store: Callable[[str], Exception]
 
     def final(self) -> Vector:
-        """Looks, and says of each server how many of its Writes are final. What was told as final stays so."""
+        """Looks, and says of each server how many of its Writes are final. What was reported as final stays so."""
         self._look()
         return self.views.final
 
@@ -256,9 +256,9 @@ class Finality:
         return self.views.is_final(origin, seq)
 
     def changed(self) -> List[Change]:
-        """Looks, and tells what changed of the session's own Writes since it was told last, each once: of each what became of it first, then where that
+        """Looks, and tells what changed of the session's own Writes since they were reported last, each once: of each what became of it first, then where that
         is another, and at last where it is final. It counts as told before it is returned. The last 64 Writes are followed, up to where they are
-        final; with a file of a state those of all its sessions. What no server can say now that holds the Write and all that is final is told later."""
+        final; with a file of a state those of all its sessions. What no server can say now that holds the Write and all that is final is reported later."""
         servers = self._look()
         changes = []
         for own in list(self.views.own):
@@ -291,7 +291,7 @@ class Finality:
         return None
 
     def _follow(self, accepted):
-        """Follows a Write that was accepted, up to where it is told as final. It is kept as such before it is no longer kept as one to ask again."""
+        """Follows a Write that was accepted, up to where it is reported as final. It is kept as such before it is no longer kept as one to ask again."""
         if self.state is not None and self.views.count is None:
             self._asked(accepted.origin, lambda link: link.greet())
             self._count_of(accepted.origin)

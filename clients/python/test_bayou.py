@@ -206,7 +206,7 @@ def open_welcome(nonce, server=0):
 
 class Fake:
     """A server that answers requests by the next of these replies, and lookups, over a connection over which it was greeted, by the next of those. Where
-    a reply is None, or there is none left, it ends the connection in its place, and behind one that stands in a list. A reply may be a function without
+    a reply is None, or there is none left, it ends the connection in its place, and after one that stands in a list. A reply may be a function without
     arguments."""
 
     def __init__(self, requests=(), lookups=(), welcome=open_welcome, known=KNOWN):
@@ -511,7 +511,7 @@ def kept(place, read, written, session=0, asks=b"\0\0\0\0", asking=None):
 
 
 def journal(*bodies, last=None):
-    """A file that keeps these, or what stands behind one, by its last digest."""
+    """A file that keeps these, or what stands after one, by its last digest."""
     text, last = (HEADER, hashlib.sha256(HEADER).digest()) if last is None else (b"", last)
     for body in bodies:
         body = struct.pack(">H", len(body)) + body

@@ -209,7 +209,7 @@ fn run<
     }
 }
 
-// The same, while progress is told at the terminal. Where no thread begins, none is told.
+// The same, while progress is shown at the terminal. Where no thread begins, none is shown.
 fn run_told<
     'a,
     T: Threads

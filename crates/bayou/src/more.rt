@@ -1,4 +1,4 @@
-//! What is told of a fault behind the line that names it: which file, why, and what tells more.
+//! What is reported of a fault after the line that names it: which file, why, and what tells more.
 use bayou_streams::Output;
 use std::alloc::{AllocError, Global};
 use std::convert::AsStr;

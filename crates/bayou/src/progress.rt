@@ -9,7 +9,7 @@ use std::sync::{Mutex, Wait};
 use std::time::{Clock, Duration};
 use std::{io, thread};
 
-/// How long no line is printed before progress is told, and how long one telling stands.
+/// How long no line is printed before progress is shown, and how long one telling stands.
 const PERIOD_SECONDS: u64 = 1;
 
 /// How long the teller sleeps between two looks: the end of a run waits for at most one.
@@ -21,7 +21,7 @@ const CLEAR: &str = "\r\x1b[K";
 /// What the fault of a line of a text begins with.
 const LINE_FAULT: &[u8] = b"bayou: line ";
 
-/// Whether progress is due, where a line was last printed or told of at `last`.
+/// Whether progress is due, where a line was last printed, or progress last shown, at `last`.
 fn is_due(now: Duration, last: Duration) -> bool
     ensures { result ≡ true ↔ as_nanos last + 1000000000 ≤ as_nanos now }
 {
@@ -35,13 +35,13 @@ fn progress_line(alloc: Global, seconds: u64, lines: u64) -> Result<String, Allo
     format!(in alloc; "\rbayou: at work for {seconds} s, {lines} lines printed")
 }
 
-/// A terminal, and what is told there.
+/// A terminal, and what it shows.
 #[derive(Drop)]
 pub struct Screen<E> {
     terminal: E,
     /// When the work began.
     begun: Duration,
-    /// When a line was last seen to be printed, or progress was last told.
+    /// When a line was last seen to be printed, or progress was last shown.
     last: Duration,
     /// How many lines were printed.
     printed: u64,
@@ -53,9 +53,9 @@ pub struct Screen<E> {
     is_over: bool,
     /// Whether who reads the output has gone.
     is_cut: bool,
-    /// Whether the fault of a line of a text was told.
+    /// Whether the fault of a line of a text was reported.
     is_refused: bool,
-    /// Whether it was told that servers didn't begin.
+    /// Whether it was reported that servers didn't begin.
     is_unbegun: bool,
 }
 
@@ -90,7 +90,7 @@ impl<E: Write> Screen<E> {
         }
     }
 
-    /// Nothing is told any more.
+    /// Nothing is shown any more.
     pub fn end(&mut self)
         ensures over { self.new.is_over ≡ true }
         ensures clear { self.new.is_shown ≡ false }
@@ -99,14 +99,14 @@ impl<E: Write> Screen<E> {
         self.is_over = true;
     }
 
-    /// Whether the fault of a line of a text was told.
+    /// Whether the fault of a line of a text was reported.
     pub fn is_refused(&self) -> bool
         ensures { result ≡ self.now.is_refused }
     {
         self.is_refused
     }
 
-    /// Whether it was told that servers didn't begin.
+    /// Whether it was reported that servers didn't begin.
     pub fn is_unbegun(&self) -> bool
         ensures { result ≡ self.now.is_unbegun }
     {
@@ -119,7 +119,7 @@ impl<E: Write> Screen<E> {
         self.is_unbegun = self.is_unbegun || matches!(text, b"bayou: device\n");
     }
 
-    // Whether this says that the output is at fault, where only its reader has gone: as other tools do, that is told by the status alone.
+    // Whether this says that the output is at fault, where only its reader has gone: as with other tools, the status alone says that.
     fn is_needless(&self, text: &[u8]) -> bool {
         self.is_cut && matches!(text, b"bayou: output\n")
     }

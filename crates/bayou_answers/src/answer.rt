@@ -9,7 +9,7 @@ use bayou_server::StartFault;
 /// What a command is answered.
 #[derive(Debug, Drop)]
 pub enum Answer {
-    /// It was done, of which nothing is printed.
+    /// It was done, and nothing is printed.
     Done,
     /// The session's Write was accepted.
     Wrote {
@@ -86,7 +86,7 @@ pub enum Recovery {
         server: ServerId,
         /// How many Writes it holds.
         holds: usize,
-        /// How many bytes were cut behind them.
+        /// How many bytes were cut after them.
         dropped: usize,
     },
     /// It was stopped, and its start was refused.

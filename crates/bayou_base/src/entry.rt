@@ -20,7 +20,7 @@ pub enum What {
     Refused,
 }
 
-/// One operation that a session tried, as who audits is told of it.
+/// One operation that a session tried, as an auditor learns of it.
 #[derive(Debug, Drop, PartialEq, Eq)]
 pub struct Entry {
     pub session: SessionId,

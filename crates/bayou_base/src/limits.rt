@@ -124,7 +124,7 @@ pub const DESKS_OF_A_PEER: u32 = 2;
 /// How many connections wait for a desk at the most. The next one is closed at once.
 pub const WAITING_CONNECTIONS: u32 = 64;
 
-/// For how many milliseconds what comes behind the last reply is dropped.
+/// For how many milliseconds what comes after the last reply is dropped.
 pub const LINGER_MILLISECONDS: u64 = 2_000;
 
 /// For how many seconds nobody is served where a connection can't be taken.

@@ -12,7 +12,7 @@ BeginsWith front text = (rest : List ℕ) × (text ≡ front ++ rest)
 abbrev pub HasWithin : List ℕ → List ℕ → Type 0
 HasWithin part text = (before : List ℕ) × (after : List ℕ) × (text ≡ before ++ (part ++ after))
 
--- what is told of a line begins as the line does that `bayou run` and `bayou audit` print
+-- what is reported of a line begins as the line does that `bayou run` and `bayou audit` print
 abbrev pub head_text : ℕ → List ℕ
 head_text number = codes "bayou: line " ++ (decimal number ++ codes ": ")
 

@@ -21,7 +21,7 @@ use serde_json::Value as Json;
 use std::alloc::{AllocError, Global};
 use std::str;
 
-/// How many lines with a fault are told of, behind the first one. More are counted.
+/// How many lines with a fault are reported, after the first one. More are counted.
 pub const MAX_TOLD: usize = 1_000;
 
 // The word that the line begins with, if it is JSON that begins with one: whether it is one of an audit file alone, or one of a script alone.
@@ -135,7 +135,7 @@ fn number_meant(json: Option<&Json>, least: u8, most: u8) -> Option<u8> {
     }
 }
 
-// Goes on behind a line with a fault, which is as if it weren't there: but the servers and the session that it speaks of are there.
+// Goes on after a line with a fault, which is as if it weren't there: but the servers and the session that it speaks of are there.
 fn presume(standing: &mut Standing, number: u64, json: &Json) {
     if let Some(session) = session_meant(json) {
         standing.presume_session(number, session);
@@ -170,7 +170,7 @@ fn look_unread(
     Ok(Seen::Faulty(fault, looked?))
 }
 
-// A line, behind those that were looked at.
+// A line, after those that were looked at.
 fn look_at(
     alloc: Global,
     kind: Kind,
@@ -195,7 +195,7 @@ fn look_at(
     Ok(Seen::Faulty(ScriptFault::OutOfPlace, Some(mistake)))
 }
 
-// The lines before this one, none of which has a fault; and it, which no text is without.
+// The lines before this one, which have no fault; and this one, which each text has.
 fn lines_before<'a>(
     alloc: Global,
     kind: Kind,
@@ -240,7 +240,7 @@ fn lines_behind(
     Ok((others, faults))
 }
 
-// The least line with a fault, as it is told.
+// The least line with a fault, as it is reported.
 fn tell_least(
     alloc: Global,
     kind: Kind,
@@ -266,7 +266,7 @@ fn tell_least(
     tell(alloc, faulty, mistake)
 }
 
-// What is told of a text that is refused for this line.
+// What is reported of a text that is refused for this line.
 fn refused(
     alloc: Global,
     kind: Kind,
@@ -294,7 +294,7 @@ fn refused(
     })
 }
 
-// What is told of a text that isn't refused.
+// What is reported of a text that isn't refused.
 fn taken(
     alloc: Global,
     kind: Kind,
@@ -338,7 +338,7 @@ fn report_of(
     }
 }
 
-/// What is told of a script.
+/// What is reported of a script.
 pub fn check_script(alloc: Global, text: &[u8]) -> Result<Report, AllocError>
     ensures kind { IfOk result (λ report. report.kind ≡ Script) }
     ensures least { IfOk result (λ report. ChecksScript (lines_of text.now) (least_told report)) }
@@ -349,7 +349,7 @@ pub fn check_script(alloc: Global, text: &[u8]) -> Result<Report, AllocError>
     report_of(alloc, Kind::Script, text, least, network)
 }
 
-/// What is told of an audit file.
+/// What is reported of an audit file.
 pub fn check_audit(alloc: Global, text: &[u8]) -> Result<Report, AllocError>
     ensures kind { IfOk result (λ report. report.kind ≡ Audit) }
     ensures least { IfOk result (λ report. ChecksAudit (lines_of text.now) (least_told report)) }
@@ -358,7 +358,7 @@ pub fn check_audit(alloc: Global, text: &[u8]) -> Result<Report, AllocError>
     report_of(alloc, Kind::Audit, text, least, None)
 }
 
-/// What is told of a text, as the kind that it is. Nothing is wrong with a text that is taken as either kind, and with no other.
+/// What is reported of a text, as the kind that it is. Nothing is wrong with a text that is taken as either kind, and with no other.
 pub fn check_text(alloc: Global, text: &[u8]) -> Result<Report, AllocError>
     ensures nothing { IfOk result (λ report. (report.least ≡ None) ↔ IsTaken (lines_of text.now)) }
     ensures script { IfOk result (λ report. report.kind ≡ Script → ChecksScript (lines_of text.now) (least_told report)) }

@@ -7,7 +7,7 @@ use memchr::memchr;
 /// The lines of a text that are left.
 #[derive(Drop)]
 pub(crate) struct Lines<'a> {
-    /// `None` behind the last line.
+    /// `None` after the last line.
     rest: Option<&'a [u8]>,
     /// The number of the line before.
     number: u64,
@@ -51,7 +51,7 @@ impl<'a> Lines<'a> {
     }
 }
 
-/// How many lines a text has: what stands behind the last line feed counts where it isn't empty.
+/// How many lines a text has: what stands after the last line feed counts where it isn't empty.
 pub(crate) fn count_lines(text: &[u8]) -> u64 {
     let mut count: u64 = 0;
     for byte in text {

@@ -120,7 +120,7 @@ impl Form {
         }
     }
 
-    /// What stands behind the word.
+    /// What stands after the word.
     pub(crate) fn parts(self) -> &'static [Part] {
         match self {
             Form::Servers => &[Part::Count, Part::Limit],

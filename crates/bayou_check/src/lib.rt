@@ -1,11 +1,11 @@
-//! Every fault of a script or of an audit file, and what is told of it.
+//! Every fault of a script or of an audit file, and what is reported of it.
 //!
-//! Callers see a [`Report`]: which kind of text it is, the least line with a fault, and the lines with a fault behind it. The least one is the line for
-//! which `bayou_script` refuses the text, with the same fault: it is told by that crate's own reader ([`least_fault`]), so that a text with no fault is one
-//! that is taken. What more is told of a line (the member, what was found, what is expected, the nearest word, a line that it may be meant as) comes of a
+//! Callers see a [`Report`]: which kind of text it is, the least line with a fault, and the lines with a fault after it. The least one is the line for
+//! which `bayou_script` refuses the text, with the same fault: that crate's own reader names it ([`least_fault`]), so that a text with no fault is one
+//! that is taken. What more is reported of a line (the member, what was found, what is expected, the nearest word, a line that it may be meant as) comes of a
 //! second look at that line alone, which believes nothing of it; no clause speaks of that. A line that a report gives as meant is one that is read.
 //!
-//! A line with a fault is as if it weren't there, but for the servers and the session that it speaks of, which are presumed; so one mistake is told once.
+//! A line with a fault is as if it weren't there, but for the servers and the session that it speaks of, which are presumed; so one mistake is reported once.
 //!
 //! Callers owe nothing. It isn't promised that memory suffices. A text is held whole.
 #![tactic(auto)]

@@ -9,7 +9,7 @@ use crate::within::{fits, headed, look_program, miscounted};
 use serde_json::Value as Json;
 use std::alloc::Global;
 
-/// How many members an entry has, with its word, if it has a word of what became of the operation: the fifth behind the first.
+/// How many members an entry has, with its word, if it has a word of what became of the operation: the fifth after the first.
 const ENTRY_WORD: usize = 5;
 
 /// What stands in the list of a Write that is held.

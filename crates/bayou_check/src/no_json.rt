@@ -58,7 +58,7 @@ fn without_commas(alloc: Global, text: &str) -> Result<String, AllocError> {
     Ok(mended)
 }
 
-// The line with this behind it.
+// The line with this after it.
 fn with_end(alloc: Global, text: &str, end: &str) -> Result<String, AllocError> {
     let mut mended = String::from_str(alloc, text.trim_end())?;
     mended.push_str(end)?;
@@ -134,7 +134,7 @@ fn fault_at(alloc: Global, text: &str) -> Result<usize, AllocError> {
     }
 }
 
-// Whether a comma stands there with no member behind it.
+// Whether a comma stands there with no member after it.
 fn is_loose_comma(bytes: &[u8], at: usize) -> bool {
     let here = bytes.get(at).copied();
     let before = bytes
@@ -154,7 +154,7 @@ fn loose_comma(alloc: Global, text: &str, at: usize) -> Result<NoJson, AllocErro
     Ok(NoJson { fix, ..told })
 }
 
-// Something behind the array.
+// Something after the array.
 fn behind(alloc: Global, text: &str, at: usize) -> Result<NoJson, AllocError> {
     let rest = text.as_bytes().get(at..).unwrap_or(b"").trim_ascii();
     let mut told = no_json(Found::Behind, Expected::NothingBehind, at, text.len());

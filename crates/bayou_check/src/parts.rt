@@ -1,4 +1,4 @@
-//! What stands behind the word of a line or of an array of a program.
+//! What stands after the word of a line or of an array of a program.
 use bayou_base::limits::{
     MAX_ALTERNATIVES, MAX_CONDITIONS, MAX_FUSE_CALLS, MAX_FUSE_KEPT, MAX_LOST_BYTES, MAX_OPS,
 };

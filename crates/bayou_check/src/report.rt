@@ -1,4 +1,4 @@
-//! What is told of a text.
+//! What is reported of a text.
 ghost use Rattle.std.specs.Prelude.{◌≡◌, ◌↔◌, ◌≤◌, None, vec_len};
 
 use crate::kind::Kind;
@@ -12,7 +12,7 @@ pub struct Report {
     pub kind: Kind,
     /// The least line with a fault, for which the text is refused.
     pub least: Option<Told>,
-    /// Lines with a fault behind it, as if each line with a fault weren't there.
+    /// Lines with a fault after it, as if each line with a fault weren't there.
     pub others: Vec<Told>,
     /// How many lines have a fault.
     pub faults: u64,

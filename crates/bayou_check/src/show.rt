@@ -73,7 +73,7 @@ fn head(alloc: Global, number: u64) -> Result<String, AllocError>
     format!(in alloc; "bayou: line {number}: ")
 }
 
-/// What is told of a line with a fault, in the file of this name.
+/// What is reported of a line with a fault, in the file of this name.
 pub fn told_text(alloc: Global, file: &str, told: &Told) -> Result<String, AllocError>
     ensures { IfOk result (λ text. BeginsWith (head_text told.now.line) (string_bytes text)) }
 {
@@ -82,7 +82,7 @@ pub fn told_text(alloc: Global, file: &str, told: &Told) -> Result<String, Alloc
     format!(in alloc; "{head}{more}")
 }
 
-// What is told behind its number.
+// What is reported after its number.
 fn more_text(alloc: Global, file: &str, told: &Told) -> Result<String, AllocError> {
     let file = plain(alloc, file)?;
     let place = place_text(alloc, told.path.as_slice())?;
@@ -129,7 +129,7 @@ fn counts_text(alloc: Global, report: &Report) -> Result<String, AllocError> {
     }
 }
 
-// What is told where `bayou net` refuses a script that `bayou run` takes.
+// What is reported where `bayou net` refuses a script that `bayou run` takes.
 fn push_network(text: &mut String, report: &Report) -> Result<(), AllocError> {
     let Some(least) = report.network else {
         return Ok(());
@@ -168,7 +168,7 @@ fn outcome(alloc: Global, report: &Report) -> Result<String, AllocError>
     }
 }
 
-// The end of that line, and what is told below it.
+// The end of that line, and what is reported below it.
 fn behind_outcome(alloc: Global, file: &str, report: &Report) -> Result<String, AllocError> {
     if report.least.is_none() {
         let file = plain(alloc, file)?;

@@ -15,7 +15,7 @@ fn behind_blanks(text: &[u8], from: usize) -> usize {
     text.len()
 }
 
-// The place behind the text that begins here with its quote.
+// The place after the text that begins here with its quote.
 fn behind_text(text: &[u8], from: usize) -> usize {
     let mut is_escaped = false;
     for at in from.saturating_add(1)..text.len() {
@@ -29,7 +29,7 @@ fn behind_text(text: &[u8], from: usize) -> usize {
     text.len()
 }
 
-// The place behind the array or the object that begins here.
+// The place after the array or the object that begins here.
 fn behind_nest(text: &[u8], from: usize) -> usize {
     let mut depth: usize = 0;
     let mut behind = from;
@@ -50,7 +50,7 @@ fn behind_nest(text: &[u8], from: usize) -> usize {
     text.len()
 }
 
-// The place behind the number or the name that begins here.
+// The place after the number or the name that begins here.
 fn behind_scalar(text: &[u8], from: usize) -> usize {
     for at in from..text.len() {
         if is_blank(text[at]) || matches!(text[at], b',' | b']' | b'}' | b':') {
@@ -60,7 +60,7 @@ fn behind_scalar(text: &[u8], from: usize) -> usize {
     text.len()
 }
 
-// The place behind the value that begins here.
+// The place after the value that begins here.
 fn behind_value(text: &[u8], from: usize) -> usize {
     match text.get(from) {
         Some(b'"') => behind_text(text, from),
@@ -69,7 +69,7 @@ fn behind_value(text: &[u8], from: usize) -> usize {
     }
 }
 
-// Where the value begins that stands behind a comma, a colon or a bracket.
+// Where the value begins that stands after a comma, a colon or a bracket.
 fn next_value(text: &[u8], from: usize) -> usize {
     behind_blanks(text, behind_blanks(text, from).saturating_add(1))
 }

@@ -259,7 +259,7 @@ impl Standing {
         }
     }
 
-    /// Why the line of this number has no place in a text of this kind, as it is told, if it hasn't.
+    /// Why the line of this number has no place in a text of this kind, as it is reported, if it hasn't.
     pub(crate) fn look(
         &self,
         alloc: Global,
@@ -300,19 +300,19 @@ impl Standing {
         }
     }
 
-    /// Goes on behind a `servers` line with a fault: so many are started, where none were.
+    /// Goes on after a `servers` line with a fault: so many are started, where none were.
     pub(crate) fn presume_servers(&mut self, number: u64, count: u8) {
         if self.started.is_none() {
             self.start(number, count);
         }
     }
 
-    /// Goes on behind a `session` line with a fault: the session is open.
+    /// Goes on after a `session` line with a fault: the session is open.
     pub(crate) fn presume_session(&mut self, number: u64, session: SessionId) {
         self.open(number, session);
     }
 
-    /// Goes on behind a line that has no place: where no servers were started as many as may be are presumed, until a line starts some.
+    /// Goes on after a line that has no place: where no servers were started as many as may be are presumed, until a line starts some.
     pub(crate) fn presume_start(&mut self, number: u64) {
         if self.started.is_none() {
             self.started = Some(Started {

@@ -1,4 +1,4 @@
-//! What is told of a line with a fault.
+//! What is reported of a line with a fault.
 ghost use Rattle.std.specs.Prelude.{◌≡◌, IfOk};
 
 use crate::expected::Expected;
@@ -138,7 +138,7 @@ fn of_no_json(alloc: Global, bytes: &[u8]) -> Result<Finding, AllocError> {
     })
 }
 
-// What is found of the fault. Where a look at the line finds another fault, no more is told than which one it is.
+// What is found of the fault. Where a look at the line finds another fault, no more is reported than which one it is.
 fn finding_of(
     alloc: Global,
     faulty: Faulty<'_>,
@@ -200,7 +200,7 @@ fn shown_part(alloc: Global, bytes: &[u8], span: Span) -> Result<Window, AllocEr
     })
 }
 
-/// What is told of the line, whose fault is this, once a look at it found this mistake.
+/// What is reported of the line, whose fault is this, once a look at it found this mistake.
 pub(crate) fn tell(
     alloc: Global,
     faulty: Faulty<'_>,

@@ -69,7 +69,7 @@ pub(crate) fn legible(alloc: Global, line: &[u8]) -> Result<String, AllocError> 
 pub(crate) fn characters(bytes: &[u8], is_text: bool) -> usize {
     let mut count: usize = 0;
     for byte in bytes {
-        // The bytes of a character behind its first one.
+        // The bytes of a character after its first one.
         let goes_on = is_text && byte & 0xc0 == 0x80;
         if !goes_on {
             count = count.saturating_add(1);

@@ -1,4 +1,4 @@
-//! A line with a fault, and what is told of it.
+//! A line with a fault, and what is reported of it.
 use crate::expected::Expected;
 use crate::found::Found;
 use crate::meant::Meant;
@@ -30,7 +30,7 @@ pub struct Mistake {
     pub instead: Option<String>,
 }
 
-/// Where something stands in a text, from 0 on: from its first byte or character to behind its last.
+/// Where something stands in a text, from 0 on: from its first byte or character to after its last.
 #[derive(Clone, Copy, Debug, PartialEq, Eq)]
 pub struct Span {
     pub start: usize,

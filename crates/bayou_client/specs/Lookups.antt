@@ -31,14 +31,14 @@ pub record Lookup (A : Type 0) : Type 1 where
   pub asks : Greeting
   pub answers : Greeting → A → Type 0
 
--- rows are told by a page of what has what was needed
+-- a holder of what was needed lists a page of rows
 abbrev pub asks_rows : RowsAsked → Lookup Page
 asks_rows asked = record {
   asks = greetings.List asked;
   answers = λ greeting page. (greeting ≡ greetings.Listed page) × Dominates page.vector asked.need;
 }
 
--- what became of a Write is told of what has what was needed
+-- a holder of what was needed reports what became of a Write
 abbrev pub asks_fate : FateAsked → Lookup Fate
 asks_fate asked = record {
   asks = greetings.Became asked;

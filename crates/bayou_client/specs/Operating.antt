@@ -42,12 +42,12 @@ begins_read asking = record { session = one_place_more asking.session; asked = N
 abbrev pub told_seen : Asking → Seen → Asking
 told_seen begun seen = record begun { session = after_read begun.session seen }
 
--- a Write was told as accepted, and is asked no more
+-- a Write was reported as accepted, and is asked no more
 abbrev pub told_accepted : Asking → Accepted → Asking
 told_accepted begun accepted = record { session = after_write begun.session accepted; asked = None }
 
 -- An operation of a session: what it asks for, which bytes are its request, what becomes of the session and of what it may ask again as it
--- begins its place, what it is told by an answer, and what is entered of it.
+-- begins its place, what it hears by an answer, and what is entered of it.
 pub record Operation (A : Type 0) : Type 1 where
   pub asks : Asks A
   pub is_request : List ℕ → Type 0
@@ -110,7 +110,7 @@ Ends operation before after read was_closed is_closed gone told =
 
 -- ---- what is heard of it, and what is entered
 
--- what becomes of a session that has begun a place: it is told what an answer says, and nothing where there is none
+-- what becomes of a session that has begun a place: it learns what an answer says, and nothing where there is none
 abbrev pub heard_by : {A : Type 0} → (tells : Asking → A → Asking) → (begun : Asking) → Result A LinkFault → Asking
 heard_by tells begun (Ok answer) = tells begun answer
 heard_by tells begun (Err fault) = begun
@@ -168,8 +168,8 @@ after_hearing operation old told =
     let asking = after_told operation (without_share old) told in
     record { session = asking.session; share = with_entered (entered_of operation.what told) old.share; asked = asking.asked }
 
--- How an operation ends: the session has begun a place, and is told just what a reply that answers the request says, which is entered. A
--- refusal is entered, and nothing is told. Where no such reply came, the session's two vectors are as they were, and nothing is entered.
+-- How an operation ends: the session has begun a place, and learns just what a reply that answers the request says, which is entered. A
+-- refusal is entered, and nothing is reported. Where no such reply came, the session's two vectors are as they were, and nothing is entered.
 -- Where the book is full, nothing is done.
 abbrev pub Operates : {A : Type 0} → Operation A → (old new : Sharing) → (before after : Option (List ℕ)) → (read : List ℕ) → (was_closed is_closed : Bool) → (gone : Type 0)
     → Result A ClientFault → Type 0

@@ -23,7 +23,7 @@ pub record Begins (many : Bool) (bytes : List ℕ) (writes : List Write) (rest :
 abbrev pub IsLast : Bool → Frame → Type 0
 IsLast many frame = IsFrame frame × (many ≡ true → (write : Write) → frame ≢ Item write)
 
--- the bytes are one whole reply, and nothing behind it
+-- the bytes are one whole reply, and nothing after it
 pub record IsReply (many : Bool) (bytes : List ℕ) (writes : List Write) (last : Frame) : Type 0 where
   pub begins : Begins many bytes writes (spelling last)
   pub ends : IsLast many last
@@ -32,7 +32,7 @@ pub record IsReply (many : Bool) (bytes : List ℕ) (writes : List Write) (last 
 abbrev pub IsUnfinished : Bool → List ℕ → Type 0
 IsUnfinished many bytes = (writes : List Write) × (rest : List ℕ) × IsPartial rest × Begins many bytes writes rest
 
--- The bytes begin no reply, or more than one: a fault stands in a frame's place, or something behind the last frame, or one Item more than a
+-- The bytes begin no reply, or more than one: a fault stands in a frame's place, or something after the last frame, or one Item more than a
 -- server holds at the most.
 abbrev pub IsNoReply : Bool → List ℕ → Type 0
 IsNoReply many bytes = (writes : List Write) × (rest : List ℕ) × Begins many bytes writes rest

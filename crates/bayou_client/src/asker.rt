@@ -115,7 +115,7 @@ fn program_of(request: Frame) -> Option<RestingProgram>
     }
 }
 
-// Sends the Write under this tag, with what the session needs, and gives it back with what is told of it.
+// Sends the Write under this tag, with what the session needs, and gives it back with what is reported of it.
 fn told_of<R: Read, W: Write>(
     alloc: Global,
     link: &mut Link<R, W>,
@@ -175,7 +175,7 @@ impl Asker {
         &self.session
     }
 
-    /// The Write that it may ask again: none where the operation begun last was no Write, or where it was told as accepted. A link over which
+    /// The Write that it may ask again: none where the operation begun last was no Write, or where it was reported as accepted. A link over which
     /// it is sent leads to its server.
     pub fn asked(&self) -> &Option<Asked>
         ensures value { result.now ≡ self.now.asked }
@@ -210,7 +210,7 @@ impl Asker {
         self.session.again();
     }
 
-    /// Sends the Write that was begun, over a link to its server, with what the session needs. It may be asked again, unless it is told as accepted.
+    /// Sends the Write that was begun, over a link to its server, with what the session needs. It may be asked again, unless it is reported as accepted.
     /// It is entered where it was accepted or refused.
     pub fn send<R: Read, W: Write>(
         &mut self,

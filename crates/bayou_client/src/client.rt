@@ -57,7 +57,7 @@ fn spend<K: Ledgers, T: Wait>(
     }
 }
 
-// What a session is told whose operation had a place in the book.
+// What a session hears whose operation had a place in the book.
 fn told_as<A>(told: Result<A, LinkFault>) -> Result<A, ClientFault>
     ensures { result ≡ as_told told }
 {
@@ -106,7 +106,7 @@ impl<K: Ledgers> Client<K> {
     }
 
     /// The server at which the Write that was asked last may be asked again: none where the last operation begun was no Write of this
-    /// client, or where it was told as accepted. A link that [`again`](Client::again) is handed leads there.
+    /// client, or where it was reported as accepted. A link that [`again`](Client::again) is handed leads there.
     pub fn asked_at(&self) -> Option<ServerId>
         ensures { result ≡ option_map (λ asked. asked.server) self.now.asked }
     {
@@ -144,7 +144,7 @@ impl<K: Ledgers> Client<K> {
     }
 
     /// Has the program accepted as a Write at this server, which the link goes to and which has what the session asks for. The Write is
-    /// entered in the book if it was accepted or refused. It is asked under a tag, and may be asked again until it is told as accepted.
+    /// entered in the book if it was accepted or refused. It is asked under a tag, and may be asked again until it is reported as accepted.
     pub fn write<R: Read, W: Write, T: Wait>(
         &mut self,
         rt: &T,
@@ -172,7 +172,7 @@ impl<K: Ledgers> Client<K> {
     }
 
     /// Asks once more for the Write that was asked last: at the server that [`asked_at`](Client::asked_at) names, which the link goes to, for
-    /// the same program under the same tag, at the session's next place and with what it needs by now. What is told of it, and what is
+    /// the same program under the same tag, at the session's next place and with what it needs by now. What is reported of it, and what is
     /// entered, is as of a Write.
     pub fn again<R: Read, W: Write, T: Wait>(
         &mut self,

@@ -1,11 +1,11 @@
-//! A session's end of a connection: what it asks of a server, what it is told, and what is entered of it in a book.
+//! A session's end of a connection: what it asks of a server, what it hears, and what is entered of it in a book.
 //!
 //! A [`Link`] is a connection to one server, over which one request has one reply. Once no whole reply came to a request it is closed,
 //! since what comes next might belong to that request; whoever goes on opens another. An [`Asker`] is a session with the Write that it may ask
 //! again: callers see the two, and what becomes of them in words of the reply that was read. It begins a place for each operation, sends the
 //! session's need, and tells the session just what a reply to that request says; what is to be entered of it in a book it hands out
 //! ([`Heard`]). A Write is begun first, and then sent, under the tag of its place, so that it may be kept between the two. The asker keeps its
-//! program and the server, and asks it again over another link, under that tag and at the session's next place: until it is told as accepted,
+//! program and the server, and asks it again over another link, under that tag and at the session's next place: until it is reported as accepted,
 //! or a read or another Write is begun. A [`Client`] is an asker with its share of the book, which claims a slip for each operation and spends it
 //! on what is to be entered.
 //!

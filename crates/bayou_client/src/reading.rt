@@ -59,7 +59,7 @@ fn item_of(frame: &Frame, many: bool) -> Option<&RestingWrite>
     }
 }
 
-// Takes frames behind which there is more: each is an Item, or what came is no reply.
+// Takes frames after which there is more: each is an Item, or what came is no reply.
 fn take_items(
     alloc: Global,
     frames: &[Frame],
@@ -79,7 +79,7 @@ fn take_items(
     Ok(())
 }
 
-// Takes the frame behind which no other came: an Item is kept, and any other frame is the last of the reply.
+// Takes the frame after which no other came: an Item is kept, and any other frame is the last of the reply.
 fn take_frame(
     alloc: Global,
     frame: Frame,
@@ -97,7 +97,7 @@ fn take_frame(
     Ok(None)
 }
 
-// Takes the frames that came, and gives the last of the reply where it is among them. Nothing may stand behind it.
+// Takes the frames that came, and gives the last of the reply where it is among them. Nothing may stand after it.
 fn take_came(
     alloc: Global,
     frames: &mut Vec<Frame>,
@@ -141,7 +141,7 @@ fn take_piece(
     Ok(Some(last))
 }
 
-/// Reads until one reply is whole, of which nothing may come behind.
+/// Reads until one reply is whole, after which nothing may come.
 pub(crate) fn read_reply<R: Read, W>(
     alloc: Global,
     channel: &mut CountedChannel<R, W>,

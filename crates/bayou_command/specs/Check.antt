@@ -1,4 +1,4 @@
--- The words behind `check`: what they take, and what they ask for.
+-- The words after `check`: what they take, and what they ask for.
 use Rattle.std.specs.Prelude.{Bool, List, codes, true}
 use Rattle.clap.specs.Words.{App, Row, new_app, with_rule}
 use Rattle.bayou_command.specs.Options.{Input, file_rule, flag_of, flag_rule, input_of, input_seen}

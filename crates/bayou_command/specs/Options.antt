@@ -16,7 +16,7 @@ folder_name = codes "DIR"
 abbrev pub folder_rule : Rule
 folder_rule = record (new_rule folder_name) { long = Some (codes "dir"); parser = Some NonEmptyString; required = true }
 
--- the word behind a command that names a file
+-- the word after a command that names a file
 abbrev pub file_name : Text
 file_name = codes "FILE"
 

@@ -1,4 +1,4 @@
--- The words behind `renew`: what its options take, and what they ask for.
+-- The words after `renew`: what its options take, and what they ask for.
 use Rattle.std.specs.Prelude.{◌-◌, ℕ, Bool, List, [], ◌∷◌, Some, codes, map}
 use Rattle.clap.specs.Words.{App, Row, Rule, Text, new_app}
 use Rattle.clap.specs.declared.builder.action.ArgAction.TheVariants.{Append}

@@ -4,6 +4,7 @@ use Rattle.std.specs.Str.Parse.{digits_value, without_leading_plus}
 use Rattle.clap.specs.ValueTests.{is_signed_in}
 use Rattle.clap.specs.Words.{Text, without_minus}
 use Rattle.clap.specs.declared.error.kind.ErrorKind.TheVariants.{ValueValidation}
+use Rattle.bayou_command.specs.Audit.{Audit}
 use Rattle.bayou_command.specs.Check.{Check}
 use Rattle.bayou_command.specs.Serve.{Service}
 use Rattle.bayou_command.specs.Connect.{Connection}
@@ -154,6 +155,14 @@ check_words words = codes "bayou" ∷ codes "check" ∷ words
 -- what a file alone asks for
 abbrev pub plain_check : Check
 plain_check = record { file = file (codes "f"); is_json = false }
+
+-- the program and an audit, before these words
+abbrev pub audit_words : List Text → List Text
+audit_words words = codes "bayou" ∷ codes "audit" ∷ words
+
+-- what a file and `--explain` ask for
+abbrev pub explained_audit : Audit
+explained_audit = record { file = file (codes "f"); is_explained = true; is_json = false; picture = None }
 
 -- the number that a text is in decimal digits, behind a sign or none
 abbrev pub number_written : Text → ℕ

@@ -1,4 +1,4 @@
--- The words behind `web`: what its options take, and what they ask for.
+-- The words after `web`: what its options take, and what they ask for.
 use Rattle.std.specs.Prelude.{ℕ, List, [], ◌∷◌, Option, Some, None, codes, map, option_map}
 use Rattle.clap.specs.Words.{App, Row, Rule, Text, new_app}
 use Rattle.bayou_base.specs.declared.limits.TheConstants.{DEFAULT_TIMEOUT_SECONDS, MAX_SECONDS, SERVERS}

@@ -6,26 +6,24 @@ use Rattle.clap.specs.Words.{App, Row, Text, fault_of, new_app, subcommand_of, w
 use Rattle.clap.specs.declared.error.kind.ErrorKind.{ErrorKind}
 use Rattle.clap.specs.declared.error.kind.ErrorKind.TheVariants.{DisplayHelp, DisplayVersion}
 pub use Rattle.bayou_command.specs.Options.{Input, file, file_name, file_rule, folder_name, folder_rule, input_named, input_of, input_seen, standard}
+use Rattle.bayou_command.specs.Audit.{Audit, audit_app, auditing_of, auditing_seen, is_plain}
 use Rattle.bayou_command.specs.Check.{Check, check_app, check_of, check_seen}
 use Rattle.bayou_command.specs.Connect.{Connection, connect_app, connection_of, connection_seen}
 use Rattle.bayou_command.specs.Export.{Export, export_app, export_of, export_seen}
 use Rattle.bayou_command.specs.Import.{Import, import_app, import_of, import_seen}
 use Rattle.bayou_command.specs.Key.{key_app}
-use Rattle.bayou_command.specs.Options.{flag_of, flag_rule, text_of}
+use Rattle.bayou_command.specs.Options.{text_of}
 use Rattle.bayou_command.specs.Renew.{Renewal, renew_app, renewal_of, renewal_seen}
 use Rattle.bayou_command.specs.Web.{Web, web_app, web_of, web_seen}
 use Rattle.bayou_command.specs.Serve.{Service, serve_app, service_of, service_seen}
 use Rattle.bayou_command.specs.declared.Stop.{Stop}
 use Rattle.bayou_command.specs.declared.Stop.TheVariants as stops
 use Rattle.bayou_command.specs.declared.Task.{Task}
-use Rattle.bayou_command.specs.declared.Task.TheVariants.{Run, Audit, Explain, Net, Serve, Connect, Key, Renew, Export as Exports, Import as Imports, Check as Checks, Web as Pages}
+use Rattle.bayou_command.specs.declared.Task.TheVariants.{Run, Audit as Audits, Explain, Net, Serve, Connect, Key, Renew, Export as Exports, Import as Imports, Check as Checks, Web as Pages}
 
--- `run` takes a file or none, and `audit` takes one, and whether it is explained
+-- `run` takes a file or none
 abbrev pub run_app : App
 run_app = with_rule (new_app (codes "run")) file_rule
-
-abbrev pub audit_app : App
-audit_app = with_rule (with_rule (new_app (codes "audit")) (flag_rule (codes "explain"))) (record file_rule { required = true })
 
 -- `net` takes a folder, and a file or none
 abbrev pub net_app : App
@@ -51,7 +49,7 @@ faults_of words = fault_of bayou_app words
 pub data Asked : Type 0 where
   a_run : Input → Asked
   an_audit : Input → Asked
-  an_explanation : Input → Asked
+  an_explanation : Audit → Asked
   a_net : Text → Input → Asked
   a_serve : Service → Asked
   a_connect : Connection → Asked
@@ -66,9 +64,9 @@ pub data Asked : Type 0 where
 abbrev pub folder_of : List Row → Text
 folder_of rows = text_of folder_name rows
 
--- an audit of the file, or one that is explained
+-- an audit of the file, or one of which more is told
 abbrev pub audit_of : List Row → Asked
-audit_of rows = if flag_of (codes "explain") rows then an_explanation (input_of rows) else an_audit (input_of rows)
+audit_of rows = let audit = auditing_of rows in if is_plain audit then an_audit audit.file else an_explanation audit
 
 -- of the commands that take a store as a whole, and `check`, the one that was entered, or else a run
 abbrev pub asked_beside : Text → List Row → Asked
@@ -108,8 +106,8 @@ pub record AskFor (words : List Text) (asked : Asked) : Type 0 where
 -- what is seen of a task
 abbrev pub task_seen : Task → Asked
 task_seen (Run source) = a_run (input_seen source)
-task_seen (Audit source) = an_audit (input_seen source)
-task_seen (Explain source) = an_explanation (input_seen source)
+task_seen (Audits source) = an_audit (input_seen source)
+task_seen (Explain auditing) = an_explanation (auditing_seen auditing)
 task_seen (Net folder script) = a_net folder.now (input_seen script)
 task_seen (Serve serving) = a_serve (service_seen serving)
 task_seen (Connect connecting) = a_connect (connection_seen connecting)

@@ -1,4 +1,4 @@
-//! The words behind `check`: its options, and what they ask for.
+//! The words after `check`: its options, and what they ask for.
 ghost use Rattle.std.specs.Prelude.{◌≡◌, IfOk, false};
 ghost use Rattle.clap.specs.declared.builder.command.Command.TheViews.{out-Command as fields_of};
 ghost use Rattle.clap.specs.Words.{app_of, found_of, rows_of};

@@ -1,4 +1,4 @@
-//! The words behind `connect`: its options, and what they ask for.
+//! The words after `connect`: its options, and what they ask for.
 ghost use Rattle.std.specs.Prelude.{◌≡◌, ◌≤◌, ◌<◌, IfOk, IfSome, codes, false};
 ghost use Rattle.clap.specs.declared.builder.command.Command.TheViews.{out-Command as fields_of};
 ghost use Rattle.clap.specs.Words.{app_of, found_of, rows_of};
@@ -34,7 +34,7 @@ const STATE: &str = "The file that keeps the session from one call to the next";
 const BOOK: &str = "The file that what was served is written to, as an audit file";
 
 const LOG: &str =
-    "The file to which each line that is printed is added, behind its time (milliseconds since 1970)";
+    "The file to which each line that is printed is added, after its time (milliseconds since 1970)";
 
 const WAIT: &str =
     "For so many seconds servers that are away or behind are tried again (0 to 86400; without it 0)";
@@ -48,7 +48,7 @@ const CONNECT_FORM: &str =
     r#"Each line is done as it comes, at a terminal and from a pipe, and its answer is printed before the next line is read. One session asks, the
 session 0: what it wrote and read, it takes from one server to the next, so that a server that is behind refuses rather than forgets.
 
-A calendar, at two servers (bayou serve --help starts them). The lines that are typed stand behind >, what is printed without it:
+A calendar, at two servers (bayou serve --help starts them). The lines that are typed stand after >, what is printed without it:
 
       bayou connect --server 0=127.0.0.1:7000 --server 1=127.0.0.1:7001 --session ryw,mr --state kim.session
       > claim mon/09 mon/10 mon/11 kim
@@ -67,9 +67,9 @@ spaces, or one that looks like a number, as "red room" and "007", stands in doub
   put K V               sets K to V
   add K N               adds N to the number of K; where K has no value it becomes N
   del K                 K has no value from then on
-  claim K1 [K2..] V     sets the first of these keys that has no value to V, and no other; up to four behind K1. Before it each
+  claim K1 [K2..] V     sets the first of these keys that has no value to V, and no other; up to four after K1. Before it each
                         key is read: where one has V already, nothing is written. Behind it each is read, up to the first that has V
-  get K1 [K2..]         reads these keys; up to four behind K1
+  get K1 [K2..]         reads these keys; up to four after K1
   again                 asks the last Write once more, where its reply was lost or it was refused
   at I                  server I is the first to be asked from here on
   list [P]              each key that has a value, or each that begins with P, and that value, in order, at the first server that
@@ -106,14 +106,14 @@ before it, until it is final. New are
 --state keeps the session in FILE, before an answer is printed, so that the next call goes on as the same session, at any server: it sees what
 this one saw, and a Write that was under way is asked again by `again`. Each person has a file of his own, and one call at a time uses it.
 What the session asks for is kept, too: a later --session that says anything else is refused.
---key names the file of the store's key (bayou key --help). A server that doesn't prove that it has that key is told, and is sent nothing. A state
+--key names the file of the store's key (bayou key --help). A server that doesn't prove that it has that key is reported, and is sent nothing. A state
 that was made with a key is used with no other, and not without.
 --book writes what was served to FILE, as an audit file; with the dumps of all servers bayou audit tells whether the session had what it
-asked for. --log adds each line that is printed to FILE, behind its time, so that one can see later what was told, and when.
+asked for. --log adds each line that is printed to FILE, after its time, so that one can see later what was said, and when.
 
 At a terminal a prompt on standard error names the server that is asked first; rlwrap in front of the call brings line editing with history.
 
-What is wrong is told on standard error, in one line; of a line of the input as `bayou: line N: FAULT`. At a terminal the lines go on behind it,
+A fault is one line on standard error; of a line of the input as `bayou: line N: FAULT`. At a terminal the lines go on after it,
 else they end there. Exit status: 0 each operation was served; 1 some weren't, or did nothing; 2 the command line or a line is refused; 3 the input, the
 output, memory or the state (its file can't be had, is in use, or has something else) failed.
 

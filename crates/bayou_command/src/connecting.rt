@@ -20,7 +20,7 @@ pub struct Connecting<'a> {
     pub state: Option<&'a str>,
     /// The file to which an audit file of what was served is written, if one is.
     pub book: Option<&'a str>,
-    /// The file to which each line that is printed is added, behind its time, if one is.
+    /// The file to which each line that is printed is added, after its time, if one is.
     pub log: Option<&'a str>,
     /// For how many seconds servers that are away, or behind, are tried again.
     pub wait_seconds: u32,

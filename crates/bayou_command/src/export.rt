@@ -1,4 +1,4 @@
-//! The words behind `export`: its options, and what they ask for.
+//! The words after `export`: its options, and what they ask for.
 ghost use Rattle.std.specs.Prelude.{◌≡◌, ◌≤◌, ◌<◌, ◌-◌, IfOk, IfSome, codes, false};
 ghost use Rattle.clap.specs.declared.builder.command.Command.TheViews.{out-Command as fields_of};
 ghost use Rattle.clap.specs.Words.{app_of, found_of, rows_of};
@@ -36,7 +36,7 @@ const ID: &str = "The number of the server whose journal it is (0 to 15)";
 const PREFIX: &str = "What the keys begin with that are printed; without it each key is";
 
 const EXPORT_FORM: &str =
-    r#"Each key that has a value is printed with it, in the order of the keys, behind a line that says of what they are:
+    r#"Each key that has a value is printed with it, in the order of the keys, after a line that says of what they are:
 
   ["exported","server-I",[V0,V1,..],KEYS]     of server I, which held V0 Writes of server 0, and so on; so many lines follow
   ["put",K,V]                                 K is a key, as "mon/09/blue"; V its value, an integer or a text, as 7 and "kim"
@@ -53,7 +53,7 @@ tentative ones, too (docs/FINAL.md).
 
 With --servers N as many counts are printed, or as many as are needed where that is more; without it as many as are needed.
 
-What is wrong is told on standard error, in one line. Exit status: 0 all is printed; 1 no server was reached, or none told all rows of one
+A fault is one line on standard error. Exit status: 0 all is printed; 1 no server was reached, or none told all rows of one
 database; 2 the command line is refused; 3 a journal is none (it isn't there, is in use, damaged or another server's), the key can't be read, or
 memory, a device or the output failed. Where the output failed a part may be printed: the first line says how many lines there should be.
 

@@ -1,4 +1,4 @@
-//! The words behind `import`: its options, and what they ask for.
+//! The words after `import`: its options, and what they ask for.
 ghost use Rattle.std.specs.Prelude.{◌≡◌, IfOk, false};
 ghost use Rattle.clap.specs.declared.builder.command.Command.TheViews.{out-Command as fields_of};
 ghost use Rattle.clap.specs.Words.{app_of, found_of, rows_of};
@@ -42,17 +42,17 @@ const IMPORT_FORM: &str =
   ["put",K,V]
 
 They may be spelled in any way that JSON has. All are read before anything is sent: where a line is none of these, or there are more or fewer than the
-first one says, it is told, and nothing is sent. Then each key is set to its value, whatever it has, eight keys a Write, at the first server:
+first one says, that is reported, and nothing is sent. Then each key is set to its value, whatever it has, eight keys a Write, at the first server:
 
       bayou import day.jsonl --server 0=127.0.0.1:7000
 
-At the end one line is printed, `imported KEYS keys in WRITES writes`. At a terminal it is told meanwhile how far it is.
+At the end one line is printed, `imported KEYS keys in WRITES writes`. At a terminal it says meanwhile how far it is.
 
 An import that was interrupted goes on as it is called again with the same words. The file --state keeps of which FILE it is, at which server, and a
 name under which each of its Writes acts once, however often it is sent. So it is used for no other FILE, for none that was changed, and at no other
-server: then that is told, and nothing is sent. One call at a time has it. To put the lines once more, remove it.
+server: then that is reported, and nothing is sent. One call at a time has it. To put the lines once more, remove it.
 
-What is wrong is told on standard error, in one line. Exit status: 0 all is put; 1 the server wasn't reached, its reply was lost or it refused: call it
+A fault is one line on standard error. Exit status: 0 all is put; 1 the server wasn't reached, its reply was lost or it refused: call it
 again; 2 the command line or FILE is refused; 3 a file can't be read, the state is another import's or in use, or memory, a device or the output failed.
 
 Pages: docs/CONNECT.md (how it is used), docs/FORMATS.md (the lines), docs/TROUBLE.md (what to do about each fault)."#;

@@ -1,4 +1,4 @@
-//! The words behind `key`: its options.
+//! The words after `key`: its options.
 ghost use Rattle.std.specs.Prelude.{◌≡◌, IfOk, false};
 ghost use Rattle.clap.specs.declared.builder.command.Command.TheViews.{out-Command as fields_of};
 ghost use Rattle.clap.specs.Words.{app_of};
@@ -32,7 +32,7 @@ It prints one line, once the key is on the disk:
 
   key NAME in FILE
 
-What is wrong is told on standard error, in one line. Exit status: 0 it is made; 2 the command line is refused; 3 the file is there already, or can't
+A fault is one line on standard error. Exit status: 0 it is made; 2 the command line is refused; 3 the file is there already, or can't
 be made, or the system draws nothing."#;
 
 pub(crate) fn key_command<'a>(alloc: Global) -> Result<Command<'a>, AllocError>

@@ -9,10 +9,11 @@ ghost use Rattle.std.specs.Prelude.{◌≡◌, ◌∷◌, ◌++◌, [], ℕ, IfO
 ghost use Rattle.clap.specs.declared.builder.command.Command.TheViews.{out-Command as fields_of};
 ghost use Rattle.clap.specs.Words.{app_of, found_of, kind_of, rows_of, rule_of, subcommand_rows_of};
 ghost use Rattle.bayou_command.specs.Words.{AskFor, Names, a_check, a_connect, a_key, a_net, a_renewal, a_run, a_serve, a_web, an_audit, an_explanation, an_export, an_import, asked_beside, asked_by, asked_named, asked_of_person, bayou_app, faults_of, file, folder_of, folder_rule, input_of, input_seen, main_app, net_app, run_app, standard, task_seen};
-ghost use Rattle.bayou_command.specs.Rows.{TakesNumbers, bare_export, check_words, connect_with, connect_words, export_words, import_with, import_words, key_words, plain_check, plain_connection, plain_import, plain_renewal, plain_service, renew_with, renew_words, serve_with, serve_words, plain_web, web_with, web_words};
+ghost use Rattle.bayou_command.specs.Rows.{TakesNumbers, audit_words, bare_export, check_words, connect_with, connect_words, explained_audit, export_words, import_with, import_words, key_words, plain_check, plain_connection, plain_import, plain_renewal, plain_service, renew_with, renew_words, serve_with, serve_words, plain_web, web_with, web_words};
 ghost use Rattle.bayou_command.specs.Inner.Stops.{StopsAt};
 
 mod audit;
+mod auditing;
 mod check;
 mod checking;
 mod connect;
@@ -31,6 +32,7 @@ mod showing;
 pub mod web;
 
 use audit::{audit_command, auditing_in};
+pub use auditing::Auditing;
 use check::{check_command, checking_in};
 pub use checking::Checking;
 use clap::builder::ValueParser;
@@ -117,11 +119,11 @@ The lines are those of bayou run (bayou run --help). What only servers in memory
 resend, a pull with ITEMS, more than 4 servers. The line ["phase"] ends a phase, and so does the end of the script. In a phase
   first      sessions are opened, as session lines say;
   then       each session does its write, read and again lines in order, all sessions at once, and the pull lines are done in order
-             beside them: so a session may come before a pull that stands before its line, or behind it. A session keeps one
+             beside them: so a session may come before a pull that stands before its line, or after it. A session keeps one
              connection to each server; an again line opens a new one, which takes the place of the one that it had there;
   when all have ended, the other lines are done in order: log, reopen, totals, judge, survey and book.
 What a phase prints comes at its end: the lines of each session, by its number, then those of the pulls, then those of the rest.
-A phase that takes longer than a second is told of on standard error, where that is a terminal.
+A phase that takes longer than a second is reported on standard error, if that is a terminal.
 
 This script has three phases. Two sessions write at two servers that are apart, the servers pull from each other, and both are read.
 
@@ -154,9 +156,9 @@ It prints, where that folder is new:
 The last lines stand at the end of each run: what was filed in the book of what was served; for each server how many Writes it accepted
 in this run, and how many it adopted as it was reopened; and the verdict (bayou audit --help).
 
-Nothing is run, and no journal is made, before the whole script was read and found good. What is wrong is told on standard error, in one
-line. Exit status: 0 clean; 1 a verdict was broken; 2 the script or the command line is refused, or a verdict or a survey was; 3 memory, a
-device (a journal that can't be opened, is another server's or in use by another run), the network, the input or the output failed.
+Nothing is run, and no journal is made, before the whole script was read and found good. A fault is one line on standard error. Exit
+status: 0 clean; 1 a verdict was broken; 2 the script or the command line is refused, or a verdict or a survey was; 3 memory, a device (a
+journal that can't be opened, is another server's or in use by another run), the network, the input or the output failed.
 
 Pages: docs/NET.md (two servers on one machine, their journals, each fault), docs/FORMATS.md (lines in and out), docs/GUARANTEES.md
 (what a session may ask for), docs/TROUBLE.md (reopen, and what to do about each fault), examples/net/ (scripts)."#;
@@ -177,7 +179,7 @@ session (0 to 31), S a server. Below each form stands an example.
       ["drop",0]
       ["write",0,0,{"update":[["put","desk",2]]}]
   ["again",I]            session I asks its last Write again, at the same server, which makes no second one of it; nothing is asked where
-                         the session was told that it was accepted, or tried a read since
+                         the session heard that it was accepted, or tried a read since
       ["again",0]
   ["log",S]              lists the Writes that server S holds, in stamp order, each with what became of it
       ["log",0]
@@ -197,7 +199,7 @@ session (0 to 31), S a server. Below each form stands an example.
       ["resend",1,0]
   ["totals"]             how many reads, Writes and refusals were filed in the book of what was served
       ["totals"]
-  ["judge"]              whether each session had what it asked for so far, told from that book and what the servers hold now
+  ["judge"]              whether each session had what it asked for so far, judged from that book and what the servers hold now
       ["judge"]
   ["survey"]             what became of each guarantee in each session so far, asked for or not
       ["survey"]
@@ -214,7 +216,7 @@ TERM  VALUE  ["copy",KEY]  ["plus",KEY,NUMBER]
 A KEY has 1 to 32 bytes of a-z 0-9 . _ - /, a PREFIX of keys 0 to 32; a VALUE is an integer, or a text of up to 32 bytes. An atmost
 holds where at most COUNT (0 to 4294967295) keys that have a value begin with the PREFIX.
 
-Nothing is printed before the whole script was read and found good. What is wrong is told on standard error, in one line.
+Nothing is printed before the whole script was read and found good. A fault is one line on standard error.
 Exit status: 0 the script was run; 1 a verdict (judge) was broken; 2 the script or the command line is refused, or a verdict or a
 survey was; 3 memory, a device as the script begins, the input or the output failed.
 
@@ -241,8 +243,8 @@ pub enum Task<'a> {
     Run(Source<'a>),
     /// To audit the file that is there.
     Audit(Source<'a>),
-    /// To audit it, and to show what is told by its lines.
-    Explain(Source<'a>),
+    /// To audit it, and to tell more of it.
+    Explain(Auditing<'a>),
     /// To run the script that is there over sockets, with the servers' journals in this folder.
     Net { folder: &'a str, script: Source<'a> },
     /// To serve one server of a store.
@@ -483,7 +485,7 @@ fn with_tip(alloc: Global, stop: Stop, file: Option<&str>) -> Stop
 }
 
 /// A law: `bayou run`, `bayou run -` and `bayou run FILE` ask for a run, of the standard input or of the file, `bayou audit FILE` and
-/// `bayou audit -` for an audit, with `--explain` for one that is explained, and `bayou net --dir D`, with the same words for its input and in any order, for a run over sockets with the
+/// `bayou audit -` for an audit, and `bayou net --dir D`, with the same words for its input and in any order, for a run over sockets with the
 /// journals in the folder D. Without a folder, or with one that has no name, `bayou net` is refused.
 /// `bayou serve` with the options that it must have asks for a server that lives: with the numbers that it has without their options, and with
 /// each other option as it is given, in any order. Without one of those that it must have, with a number out of its range, with one of them
@@ -493,8 +495,6 @@ pub fn commands_are_named()
     ensures run_dash { AskFor (codes "bayou" ∷ codes "run" ∷ codes "-" ∷ []) (a_run standard) }
     ensures run_file { AskFor (codes "bayou" ∷ codes "run" ∷ codes "a.jsonl" ∷ []) (a_run (file (codes "a.jsonl"))) }
     ensures audit { AskFor (codes "bayou" ∷ codes "audit" ∷ codes "a.jsonl" ∷ []) (an_audit (file (codes "a.jsonl"))) }
-    ensures explained { AskFor (codes "bayou" ∷ codes "audit" ∷ codes "--explain" ∷ codes "a.jsonl" ∷ []) (an_explanation (file (codes "a.jsonl"))) }
-    ensures explained_turned { AskFor (codes "bayou" ∷ codes "audit" ∷ codes "-" ∷ codes "--explain" ∷ []) (an_explanation standard) }
     ensures audit_dash { AskFor (codes "bayou" ∷ codes "audit" ∷ codes "-" ∷ []) (an_audit standard) }
     ensures net { AskFor (codes "bayou" ∷ codes "net" ∷ codes "--dir" ∷ codes "d" ∷ []) (a_net (codes "d") standard) }
     ensures net_joined { AskFor (codes "bayou" ∷ codes "net" ∷ codes "--dir=d" ∷ []) (a_net (codes "d") standard) }
@@ -544,7 +544,7 @@ pub fn commands_are_named()
     ensures serve_word { faults_of (serve_with (codes "w" ∷ [])) ≡ ErrorKind.UnknownArgument ∷ [] }
 {}
 
-/// A law: whatever stands behind `--limit=`, a number from 1 to 65536 in decimal digits is taken as the limit that it is, and any other text is
+/// A law: whatever stands after `--limit=`, a number from 1 to 65536 in decimal digits is taken as the limit that it is, and any other text is
 /// refused. So it is, each in its range, with the other options of `bayou serve` that take numbers.
 pub fn numbers_are_taken()
     ensures id { TakesNumbers 0 15 (λ text. serve_words ((codes "--id=" ++ text) ∷ codes "--servers" ∷ codes "3" ∷ codes "--dir" ∷ codes "d" ∷ codes "--listen" ∷ codes "h:1" ∷ [])) (λ number. a_serve (record plain_service { id = number })) }
@@ -555,7 +555,7 @@ pub fn numbers_are_taken()
     ensures idle { TakesNumbers 1 86400 (λ text. serve_with ((codes "--idle=" ++ text) ∷ [])) (λ number. a_serve (record plain_service { idle_seconds = number })) }
 {}
 
-/// A law: whatever stands behind `--listen=`, `--dir=`, `--key=` and `--peer=` is taken as it stands, where the name of a folder or a file has a byte, and the
+/// A law: whatever stands after `--listen=`, `--dir=`, `--key=` and `--peer=` is taken as it stands, where the name of a folder or a file has a byte, and the
 /// peers in their order.
 pub fn texts_are_taken()
     ensures listen { (text : List ℕ) → AskFor (serve_words ((codes "--listen=" ++ text) ∷ codes "--id" ∷ codes "1" ∷ codes "--servers" ∷ codes "3" ∷ codes "--dir" ∷ codes "d" ∷ [])) (a_serve (record plain_service { listen = text })) }
@@ -609,8 +609,8 @@ pub fn connections_are_named()
     ensures no_option { faults_of (connect_with (codes "--walk" ∷ [])) ≡ ErrorKind.UnknownArgument ∷ [] }
 {}
 
-/// A law: whatever stands behind `--servers=`, `--wait=` and `--timeout=` is taken as the number in decimal digits that it is, where that is in
-/// its range, and any other text is refused. What stands behind `--server=`, `--session=`, `--key=`, `--state=`, `--book=` and `--log=` is taken as it stands, where the name of a
+/// A law: whatever stands after `--servers=`, `--wait=` and `--timeout=` is taken as the number in decimal digits that it is, where that is in
+/// its range, and any other text is refused. What stands after `--server=`, `--session=`, `--key=`, `--state=`, `--book=` and `--log=` is taken as it stands, where the name of a
 /// file has a byte, and the servers in their order.
 pub fn connections_are_taken()
     ensures count { TakesNumbers 1 16 (λ text. connect_with ((codes "--servers=" ++ text) ∷ [])) (λ number. a_connect (record plain_connection { count = Some number })) }
@@ -625,7 +625,7 @@ pub fn connections_are_taken()
 {}
 
 /// A law: `bayou key` with the name of a store and one file, in any order, asks for a key of that store in that file. Without one of the two, with an option
-/// or a file twice, or with a file of no name it is refused. What stands behind `--name=`, and the file's name where it has a byte, is taken as it stands.
+/// or a file twice, or with a file of no name it is refused. What stands after `--name=`, and the file's name where it has a byte, is taken as it stands.
 pub fn keys_are_named()
     ensures plain { AskFor (key_words (codes "f" ∷ codes "--name" ∷ codes "n" ∷ [])) (a_key (codes "n") (codes "f")) }
     ensures turned { AskFor (key_words (codes "--name=n" ∷ codes "f" ∷ [])) (a_key (codes "n") (codes "f")) }
@@ -640,7 +640,7 @@ pub fn keys_are_named()
 
 /// A law: `bayou renew` with the options that it must have, in any order, asks for the journal of a new store, with as many servers as the old one has, and
 /// with each other option as it is given. Without one of those that it must have, with a number out of its range, with one of them twice, with a folder of no
-/// name or with a word that is no option it is refused. What stands behind `--at=` and `--without=` is taken as it stands, and the prefixes in their order.
+/// name or with a word that is no option it is refused. What stands after `--at=` and `--without=` is taken as it stands, and the prefixes in their order.
 pub fn renewals_are_named()
     ensures plain { AskFor (renew_with []) (a_renewal plain_renewal) }
     ensures turned { AskFor (renew_words (codes "--at=1,2,3" ∷ codes "--to=n" ∷ codes "--dir=d" ∷ codes "--servers=3" ∷ codes "--id=1" ∷ [])) (a_renewal plain_renewal) }
@@ -665,7 +665,7 @@ pub fn renewals_are_named()
 
 /// A law: `bayou export` asks for the rows of servers that are named, in the order of the words, or of a server's journal, of those keys that begin so.
 /// Words that ask for both, or for neither, are taken as they stand: what is told of them is another's matter. With a number out of its range, with one option
-/// twice, with a folder or a key of no name, with two prefixes or with a word that is no option it is refused. What stands behind `--server=` is taken as it
+/// twice, with a folder or a key of no name, with two prefixes or with a word that is no option it is refused. What stands after `--server=` is taken as it
 /// stands.
 pub fn exports_are_named()
     ensures bare { AskFor (export_words []) (an_export bare_export) }
@@ -689,7 +689,7 @@ pub fn exports_are_named()
 
 /// A law: `bayou import` asks for the lines of the file that is named to be put at the servers that are, in the order of the words, and with each other
 /// option as it is given. Without a file or a server, with a number out of its range, with one option twice, with a state or a key of no name, with two files
-/// or with a word that is no option it is refused. What stands behind `--server=` and `--state=` is taken as it stands.
+/// or with a word that is no option it is refused. What stands after `--server=` and `--state=` is taken as it stands.
 pub fn imports_are_named()
     ensures plain { AskFor (import_with []) (an_import plain_import) }
     ensures turned { AskFor (import_words (codes "--server=s" ∷ codes "f" ∷ [])) (an_import plain_import) }
@@ -709,7 +709,7 @@ pub fn imports_are_named()
 
 /// A law: `bayou web` asks for the page of a session that is kept in the file that is named, at the servers that are, in the order of the words, and with each
 /// other option as it is given. Without a server or a state, with a number out of its range, with one option twice, with a state or a key of no name, or with a
-/// word that is no option it is refused. What stands behind `--server=` and `--name=` is taken as it stands.
+/// word that is no option it is refused. What stands after `--server=` and `--name=` is taken as it stands.
 pub fn pages_are_named()
     ensures plain { AskFor (web_with []) (a_web plain_web) }
     ensures whole { AskFor (web_with (codes "--timeout" ∷ codes "9" ∷ codes "--listen" ∷ codes "a" ∷ codes "--name" ∷ codes "n" ∷ codes "--key" ∷ codes "k" ∷ codes "--session" ∷ codes "all" ∷ codes "--servers" ∷ codes "3" ∷ []))
@@ -726,7 +726,7 @@ pub fn pages_are_named()
     ensures no_option { faults_of (web_with (codes "--walk" ∷ [])) ≡ ErrorKind.UnknownArgument ∷ [] }
 {}
 
-/// A law: `bayou check` with one file, or with `-` for the standard input, asks for every fault of it, with `--json`, before or behind it, as lines of JSON. Without
+/// A law: `bayou check` with one file, or with `-` for the standard input, asks for every fault of it, with `--json`, before or after it, as lines of JSON. Without
 /// a file, with two, or with a word that is no option it is refused.
 pub fn checks_are_named()
     ensures plain { AskFor (check_words (codes "f" ∷ [])) (a_check plain_check) }
@@ -737,4 +737,20 @@ pub fn checks_are_named()
     ensures no_file { faults_of (check_words (codes "--json" ∷ [])) ≡ ErrorKind.MissingRequiredArgument ∷ [] }
     ensures two_files { faults_of (check_words (codes "f" ∷ codes "g" ∷ [])) ≡ ErrorKind.UnknownArgument ∷ [] }
     ensures no_option { faults_of (check_words (codes "--walk" ∷ codes "f" ∷ [])) ≡ ErrorKind.UnknownArgument ∷ [] }
+{}
+
+/// A law: `bayou audit` with one file, or with `-` for the standard input, and with `--explain`, `--json` or `--picture` and a name, in any order, asks for an audit of which
+/// that is told. Without a file, with two, with a picture that has no name, with one of these twice or with a word that is no option it is refused.
+pub fn audits_are_named()
+    ensures explained { AskFor (audit_words (codes "--explain" ∷ codes "f" ∷ [])) (an_explanation explained_audit) }
+    ensures explained_turned { AskFor (audit_words (codes "-" ∷ codes "--explain" ∷ [])) (an_explanation (record explained_audit { file = standard })) }
+    ensures json { AskFor (audit_words (codes "--json" ∷ codes "f" ∷ [])) (an_explanation (record explained_audit { is_explained = false; is_json = true })) }
+    ensures json_explained { AskFor (audit_words (codes "f" ∷ codes "--explain" ∷ codes "--json" ∷ [])) (an_explanation (record explained_audit { is_json = true })) }
+    ensures picture { AskFor (audit_words (codes "f" ∷ codes "--picture" ∷ codes "p" ∷ [])) (an_explanation (record explained_audit { is_explained = false; picture = Some (codes "p") })) }
+    ensures picture_joined { AskFor (audit_words (codes "--picture=p" ∷ codes "f" ∷ codes "--explain" ∷ [])) (an_explanation (record explained_audit { picture = Some (codes "p") })) }
+    ensures no_picture { faults_of (audit_words (codes "f" ∷ codes "--picture" ∷ [] ∷ [])) ≡ ErrorKind.InvalidValue ∷ [] }
+    ensures two_pictures { faults_of (audit_words (codes "f" ∷ codes "--picture=p" ∷ codes "--picture=q" ∷ [])) ≡ ErrorKind.ArgumentConflict ∷ [] }
+    ensures no_file { faults_of (audit_words (codes "--explain" ∷ [])) ≡ ErrorKind.MissingRequiredArgument ∷ [] }
+    ensures two_files { faults_of (audit_words (codes "f" ∷ codes "g" ∷ [])) ≡ ErrorKind.UnknownArgument ∷ [] }
+    ensures no_option { faults_of (audit_words (codes "--walk" ∷ codes "f" ∷ [])) ≡ ErrorKind.UnknownArgument ∷ [] }
 {}

@@ -1,4 +1,4 @@
-//! The words behind `renew`: its options, and what they ask for.
+//! The words after `renew`: its options, and what they ask for.
 ghost use Rattle.std.specs.Prelude.{◌≡◌, IfOk, false};
 ghost use Rattle.clap.specs.declared.builder.command.Command.TheViews.{out-Command as fields_of};
 ghost use Rattle.clap.specs.Words.{app_of, found_of, rows_of};
@@ -39,7 +39,7 @@ file OLD/server-I.journal, which nobody has open: stop all servers. Of that the 
 Writes of server 0 of a new store, and nothing else. The old folder isn't changed.
 
 All servers must hold the same Writes: wait until each holds the same counts (bayou connect, servers), stop them all, and say the line that each
-prints as it ends (log I at V) behind --at. Then call this for each server, with the same words but for --id and the folders:
+prints as it ends (log I at V) after --at. Then call this for each server, with the same words but for --id and the folders:
 
       bayou renew --id 0 --servers 3 --dir old --to new --at 21500,30120,13916
       bayou renew --id 1 --servers 3 --dir old --to new --at 21500,30120,13916
@@ -49,14 +49,14 @@ Each prints one line, whose D is the same at all of them:
 
   renewed I at V keys K writes W digest D     K keys are taken along, as W Writes
 
-A server that holds something else is refused, and what it holds is told. With --servers-then M the new store has M servers: a server more begins
+A server that holds something else is refused, and what it holds is printed. With --servers-then M the new store has M servers: a server more begins
 with serve --new, and a server from M on is left out. Give the new store a key of its own (bayou key): then no server and no client of the old one
 meets it by mistake.
 
 The journal is made in a file NEW/server-I.journal.part, which gets its name at the end: so it is there whole, or not at all. Where the call is cut
 off, call it again.
 
-What is wrong is told on standard error, in one line. Exit status: 0 the new journal is there; 2 the command line is refused; 3 a journal is none to
+A fault is one line on standard error. Exit status: 0 the new journal is there; 2 the command line is refused; 3 a journal is none to
 be renewed (it isn't there, is in use, damaged or another server's, or holds something else than --at, or too much), one is there already, or
 memory, a device or the output failed.
 

@@ -1,4 +1,4 @@
-//! The words behind `serve`: its options, and what they ask for.
+//! The words after `serve`: its options, and what they ask for.
 ghost use Rattle.std.specs.Prelude.{◌≡◌, IfOk, false};
 ghost use Rattle.clap.specs.declared.builder.command.Command.TheViews.{out-Command as fields_of};
 ghost use Rattle.clap.specs.Words.{app_of, found_of, rows_of};
@@ -88,9 +88,9 @@ ask anything, and no other server is pulled from. The first start with a key mak
 with that key alone. There are no ciphers, so an address other than this machine's own (127.0.0.1, loopback) is refused without --anyone. From
 another machine, reach it over `ssh -L 7000:127.0.0.1:7000 HOST`.
 
-A signal, as of Ctrl-C or kill, is a clean end: each Write is synced before anybody is told of it. The next start goes on from the journal.
+A signal, as of Ctrl-C or kill, is a clean end: each Write is synced before anybody hears of it. The next start goes on from the journal.
 
-What is wrong is told on standard error, in one line. Exit status: 0 the standard input ended, with --until-input-ends; 2 the command line
+A fault is one line on standard error. Exit status: 0 the standard input ended, with --until-input-ends; 2 the command line
 is refused; 3 a device, the journal (it isn't there, is another server's, or is in use), memory, the port or the output failed.
 
 Pages: docs/SERVE.md (a store that lives, day by day), docs/PROTOCOL.md (what clients ask and are answered), docs/TROUBLE.md (what a

@@ -1,4 +1,4 @@
-//! The words behind `web`: its options, and what they ask for.
+//! The words after `web`: its options, and what they ask for.
 ghost use Rattle.std.specs.Prelude.{◌≡◌, IfOk, false};
 ghost use Rattle.clap.specs.declared.builder.command.Command.TheViews.{out-Command as fields_of};
 ghost use Rattle.clap.specs.Words.{app_of, found_of, rows_of};
@@ -35,7 +35,7 @@ const WEB_FORM: &str =
 
   web at http://127.0.0.1:8080/#TOKEN
 
-Open that address in a browser of this machine. The token behind # is drawn anew by each call: whoever has it can do what you can, so don't send it on.
+Open that address in a browser of this machine. The token after # is drawn anew by each call: whoever has it can do what you can, so don't send it on.
 
       bayou web --server 0=127.0.0.1:7000 --server 1=127.0.0.1:7001 --session all --state kim.state --name kim
 
@@ -43,10 +43,10 @@ The page shows keys of the form A/B/C as tables, a table for each A, and other k
 change yet. A free place is claimed by a click, and an own one is given back. Beside that it shows your Writes that aren't final, the servers, the session,
 and a line in which all that `bayou connect` takes may be typed (bayou connect --help).
 
-Servers are asked once a second, as long as a page is open. Where none answers, the page shows what was told last, and says so. --session, --servers, --key and
+Servers are asked once a second, as long as a page is open. If none answers, the page shows what was said last, and says so. --session, --servers, --key and
 --state are those of `bayou connect`, and one call of either uses a state at a time.
 
-What is wrong is told on standard error, in one line. Exit status: 2 the command line is refused; 3 the address can't be listened at, or the state, memory or
+A fault is one line on standard error. Exit status: 2 the command line is refused; 3 the address can't be listened at, or the state, memory or
 the output failed.
 
 Pages: docs/WEB.md (the page, and who may ask it), docs/CONNECT.md (lines), docs/FINAL.md (what is final), docs/TROUBLE.md (what to do about each fault)."#;

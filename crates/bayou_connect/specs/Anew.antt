@@ -9,7 +9,7 @@ those [] = []
 those (None ∷ all) = those all
 those (Some kept ∷ all) = kept ∷ those all
 
--- how many entries there are behind these too
+-- how many entries there are after these too
 abbrev pub entries_behind : ℕ → List Asking → ℕ
 entries_behind count [] = count
 entries_behind count (kept ∷ more) = entries_behind (one_more count) more

@@ -24,14 +24,14 @@ use Rattle.bayou_print.specs.Connected.{became_text}
 use Rattle.bayou_streams.specs.Account.{Account, TakesBytes}
 use Rattle.bayou_wire.specs.declared.lookup.Placed.{Placed}
 
--- The session reads a key, at any server, and what it is told is printed.
+-- The session reads a key, at any server, and what it hears is printed.
 pub record ReadsKey (who : SessionId) (key : List ℕ) (old new : Desk) (before after : Account) : Type 0 where
   pub told : Told
   pub asked : AsksAnywhere who (attempts.Read key) old.first old.rounds old.store new.store told
   pub printed : TakesBytes before after (told_text old.servers who (Some key) told)
   pub seat : IsSameSeat old new
 
--- It writes, at any server, and what it is told is printed: as what the Write was accepted, if it was.
+-- It writes, at any server, and what it hears is printed: as what the Write was accepted, if it was.
 pub record MakesWrite (who : SessionId) (program : Program) (old new : Desk) (before after : Account) (made : Option Made) : Type 0 where
   pub told : Told
   pub asked : AsksAnywhere who (attempts.Write program) old.first old.rounds old.store new.store told
@@ -39,7 +39,7 @@ pub record MakesWrite (who : SessionId) (program : Program) (old new : Desk) (be
   pub accepted : IsMade new.store.accesses.items told made
   pub seat : IsSameSeat old new
 
--- What became of a Write is printed, as far as its server tells it, behind the own Write that goes for it. No session has read anything by it.
+-- What became of a Write is printed, as far as its server tells it, after the own Write that goes for it. No session has read anything by it.
 pub record TellsOutcome (who : SessionId) (made : Made) (old new : Desk) (before after : Account) (placed : Option Placed) : Type 0 where
   pub kept : Account
   pub keeps : KeepsOwn (outlook_of old.store.views) (own_write made placed) (outlook_of new.store.views) before kept
@@ -47,7 +47,7 @@ pub record TellsOutcome (who : SessionId) (made : Made) (old new : Desk) (before
   pub served : new.is_served ≡ (old.is_served && changes_something placed)
   pub same : IsSameDesk old new
 
--- Whether the session is told, at any server, that a key has another value than this, or none. What else it is told is printed.
+-- Whether the session hears, at any server, that a key has another value than this, or none. What else it hears is printed.
 pub record LooksFree (who : SessionId) (value : Value) (key : List ℕ) (old new : Desk) (before after : Account) (is_free : Bool) : Type 0 where
   pub told : Told
   pub asked : AsksAnywhere who (attempts.Read key) old.first old.rounds old.store new.store told
@@ -62,7 +62,7 @@ LookFree who value (key ∷ keys) old new before after are_free = (is_free : Boo
     × LooksFree who value key old looked before line is_free
     × MatchBool is_free (LookFree who value keys looked new line after are_free) ((are_free ≡ false) × (new ≡ looked) × (after ≡ line))
 
--- Whether the session is told, at the server of that place, that a key has another value than this, or none. What it is told is printed.
+-- Whether the session hears, at the server of that place, that a key has another value than this, or none. What it hears is printed.
 pub record TellsKey (who : SessionId) (value : Value) (at : ℕ) (key : List ℕ) (old new : Desk) (before after : Account) (is_other : Bool) : Type 0 where
   pub told : Told
   pub asked : AsksAt who (attempts.Read key) old.store at new.store told
@@ -159,7 +159,7 @@ abbrev pub IsPlaceOr : List Access → ServerId → (other : ℕ) → (at : ℕ)
 IsPlaceOr accesses server other at =
     (All (λ access. access.place.id ≢ server) accesses × (at ≡ other)) ⊎ IsSomeAnd (slice_get accesses at) (λ access. access.place.id ≡ server)
 
--- the line of what became of a Write, and of what else the session is told
+-- the line of what became of a Write, and of what else the session hears
 abbrev pub fate_told : (servers : ℕ) → SessionId → Wid → Told → List ℕ
 fate_told servers who wid told.Away = told_text servers who None told.Away
 fate_told servers who wid (told.Seen seen) = told_text servers who None (told.Seen seen)

@@ -11,7 +11,7 @@ abbrev pub IsMadeAs : List Access → Accepted → Option Made → Type 0
 IsMadeAs accesses accepted made = MatchOption made (All (λ access. access.place.id ≢ accepted.wid.origin) accesses)
     (λ made. (made.wid ≡ accepted.wid) × (made.clock ≡ accepted.stamp.clock) × IsSomeAnd (slice_get accesses made.at) (λ access. access.place.id ≡ accepted.wid.origin))
 
--- the same by what was told of a Write: nothing, where it wasn't accepted
+-- the same by what was reported of a Write: nothing, where it wasn't accepted
 abbrev pub IsMade : List Access → Told → Option Made → Type 0
 IsMade accesses (told.Accepted accepted) made = IsMadeAs accesses accepted made
 IsMade accesses told.Away made = made ≡ None

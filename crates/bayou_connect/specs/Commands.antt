@@ -27,7 +27,7 @@ use Rattle.bayou_text.specs.declared.command.Operation.{Operation}
 use Rattle.bayou_text.specs.declared.command.TrialKind.{TrialKind}
 use Rattle.bayou_text.specs.declared.command.TrialKind.TheVariants as trials
 
--- A session's operation at one server, of which the key is one if it is a read: what it is told is printed, and it is noted whether that is what was asked for.
+-- A session's operation at one server, with its key if it is a read: what it hears is printed, and it is noted whether that is what was asked for.
 pub record AsksOnce (who : SessionId) (server : ServerId) (key : Option (List ℕ)) (attempt : Attempt) (old new : Desk) (before after : Account) (told : Told) : Type 0 where
   pub asked : AsksServer who server attempt old.store new.store told
   pub printed : TakesBytes before after (told_text old.servers who key told)

@@ -8,7 +8,7 @@ use Rattle.bayou_connect.specs.declared.listing.Rows.{Rows}
 use Rattle.bayou_connect.specs.declared.told.Told.{Told}
 use Rattle.bayou_connect.specs.declared.told.Told.TheVariants.{Away}
 
--- Why no rows are taken of which this was told: no server was reached, or some was and told them not, or not all of them.
+-- Why no rows are taken, by this answer: no server was reached, or one was and didn't list them, or not all of them.
 abbrev pub untaken_as : Told → NotTaken
 untaken_as Away = untaken.Away
 untaken_as _ = untaken.Untold

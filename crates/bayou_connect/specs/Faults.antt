@@ -45,7 +45,7 @@ file_at_fault state book lines fault =
     else if is_of_lines fault then lines
     else None
 
--- what is wrong with a label is told by its own name
+-- what is wrong with a label is reported by its own name
 abbrev pub labelled_as : LabelFault → ConnectFault
 labelled_as (labels.OtherStore name) = OtherStore name
 labelled_as labels.NotALabel = NotALabel
@@ -62,7 +62,7 @@ unprinted_as runs.Memory = Memory
 unprinted_as runs.Input = Input
 unprinted_as _ = Output
 
--- A state file that can't be used is told by what is wrong with it. Where the device refused a cut, the damage is told in place of the call that failed.
+-- The fault of an unusable state file says what is wrong with it. Where the device refused a cut, the damage is reported in place of the call that failed.
 abbrev pub forgotten_as : RememberFault → Option Damage → ConnectFault
 forgotten_as (remembering.Journal opening.Device) (Some damage) = StateDamaged damage.whole damage.behind
 forgotten_as (remembering.Journal opening.Device) None = State

@@ -1,4 +1,4 @@
--- What servers tell of what they hold, and what a person is told of what is final: this project's own.
+-- What servers tell of what they hold, and what a person learns of what is final: this project's own.
 use Rattle.std.specs.Prelude.{◌≡◌, ◌+◌, ◌-◌, ◌<◌, ◌≤◌, ◌==◌, ◌↔◌, ◌⊎◌, ◌++◌, ◌∷◌, [], if◌then◌else◌, ℕ, Bool, false, true, IfSome, IsSomeAnd, List, MatchBool, Option, None, Some, drop, length, nat_lt, replicate, slice_get, sum, take}
 use Rattle.std.specs.Option.{option_map}
 use Rattle.bayou_base.specs.declared.refusal.Refusal.TheVariants as refusals
@@ -70,7 +70,7 @@ is_refused_as_full (told.Accepted accepted) = false
 is_refused_as_full told.Away = false
 is_refused_as_full told.Lost = false
 
--- how an own Write is told to stand by what is news of it: where all are told, one of which there is no news may change
+-- how an own Write is reported to stand by what is news of it: where all are reported, one without news may change
 abbrev pub told_as : Telling → Option Standing → Option Standing
 told_as telling.News news = news
 told_as telling.All None = Some Tentative
@@ -131,11 +131,11 @@ HasMade None write gone new = (gone ≡ None) × (new ≡ None)
 HasMade (Some old) write gone new = (gone ≡ gone_for old.own.items)
     × IsSomeAnd new (λ known. (known.finality ≡ old.finality) × (known.own.items ≡ own_with old.own.items write))
 
--- what is news of an own Write that became this, by what is known to be final and what was told of it last
+-- what is news of an own Write that became this, by what is known to be final and what was reported of it last
 abbrev pub IsNewsOf : (finals : List ℕ) → OwnWrite → Became → Option Standing → Type 0
 IsNewsOf finals write became news = (is_final : Bool) × (is_final ≡ true ↔ Covers finals write.wid.origin.index write.wid.seq) × IsNews is_final write.told became news
 
--- The own Write of a place became this, which is told as far as it is news, and kept as it was told; one that is final is kept no longer.
+-- The own Write of a place became this, which is reported as far as it is news, and kept so; one that is final is kept no longer.
 abbrev pub HasTold : (old : Option Outlook) → (place : ℕ) → Became → (news : Option Standing) → (new : Option Outlook) → Type 0
 HasTold None place became news new = (news ≡ None) × (new ≡ None)
 HasTold (Some old) place became news new = (length old.own.items ≤ place → news ≡ None)
@@ -161,7 +161,7 @@ outlook_of (Some file) = file.outlook
 abbrev pub finals_in : Option Outlook → Option (List ℕ)
 finals_in known = option_map (λ (outlook : Outlook). outlook.finality.finals) known
 
--- the own Writes that weren't told as final yet
+-- the own Writes that weren't reported as final yet
 abbrev pub own_in : Option Outlook → List OwnWrite
 own_in None = []
 own_in (Some known) = known.own.items
@@ -180,8 +180,8 @@ pub record IsNear (finals view : List ℕ) : Type 0 where
   pub holds : Dominates view finals
   pub few : sum view - sum finals ≤ most_beyond finals
 
--- Behind what a server told to hold more is known to be final, if anything: all that it holds, and no key may change yet; or what so many of its Writes raise,
--- and the keys may change yet that the Writes behind those may change.
+-- By what a server told that it holds, more is known to be final, if anything: all of that, and no key may change yet; or what so many of its Writes raise,
+-- and the keys may change yet that the Writes after those may change.
 abbrev pub IsLearnt : (old : Option Outlook) → (view : List ℕ) → (new : Option Outlook) → Beyond → Type 0
 IsLearnt old view new beyond = (HasSettled old view true new × AreKeysOf [] beyond.keys)
     ⊎ ((writes : List Write) × (number : ℕ) × IfSome (finals_in old) (λ finals. IsNear finals view) × HasGoneOn old writes (Some number) new

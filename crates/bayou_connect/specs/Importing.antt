@@ -29,18 +29,18 @@ pub record Puts (rows : List Row) (program : Program) : Type 0 where
 abbrev pub TakesWrites : (rows writes : ℕ) → Type 0
 TakesWrites rows writes = (rows ≤ MAX_OPS * writes) × (MAX_OPS * writes < rows + MAX_OPS)
 
--- the session of this run stands behind so many Writes, and may ask none of them again
+-- the session of this run stands after so many Writes, and may ask none of them again
 pub record IsBegunAt (run writes : ℕ) (asker : Asking) : Type 0 where
   pub run_is : asker.session.run ≡ run
   pub behind : asker.session.begun ≡ writes
   pub number : asker.session.id.index ≡ 0
   pub asked : asker.asked ≡ None
 
--- the session of this run asks the server for the Write behind so many, which puts these rows
+-- the session of this run asks the server for the Write after so many, which puts these rows
 abbrev pub AsksToPut : (run : ℕ) → ServerId → (rows : List Row) → (writes : ℕ) → Asking → Type 0
 AsksToPut run server rows writes asker = (begun : Asking) × (program : Program) × IsBegunAt run writes begun × Puts rows program × (asker ≡ asks_at begun server program)
 
--- why a Write wasn't accepted of which this was told, if it wasn't
+-- why a Write that got this answer wasn't accepted, if it wasn't
 abbrev pub stopped_as : Result Accepted LinkFault → Result (Option NotPut) ConnectFault
 stopped_as (Ok accepted) = Ok None
 stopped_as (Err links.Lost) = Ok (Some Lost)

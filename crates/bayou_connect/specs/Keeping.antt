@@ -1,4 +1,4 @@
--- What is kept of an operation before it is sent, and before anybody is told of it: this project's own.
+-- What is kept of an operation before it is sent, and before anybody hears of it: this project's own.
 use Rattle.std.specs.Prelude.{◌≡◌, ◌⊎◌, ℕ, List, Option, Some, IfSome, IsSome, slice_get, slice_set}
 use Rattle.bayou_base.specs.declared.server.ServerId.{ServerId}
 use Rattle.bayou_client.specs.Operating.{Asking}
@@ -24,7 +24,7 @@ pub record IsUnsent (old new : List (Option Asking)) (told : Told) : Type 0 wher
   pub same : new ≡ old
   pub none : (told ≡ Away) ⊎ (told ≡ Lost)
 
--- The session did this at the server of that place, and is kept last as it was told; each other session stays as it was.
+-- The session did this at the server of that place, and is kept last as it heard; each other session stays as it was.
 pub record IsTold (places : List Access) (at : ℕ) (attempt : Attempt) (old new : List (Option Asking)) (state : Option StateFile) (who : ℕ) (told : Told) : Type 0 where
   pub server : ServerId
   pub place : IfSome (slice_get places at) (λ access. access.place.id ≡ server)

@@ -24,12 +24,12 @@ use Rattle.bayou_streams.specs.Account.{Account, TakesBytes}
 abbrev pub Row : Type 0
 Row = List ℕ × Value
 
--- a key comes behind that one, in the order of their bytes; any does where there is none
+-- a key comes after that one, in the order of their bytes; any does where there is none
 abbrev pub is_behind : (last : Option (List ℕ)) → (key : List ℕ) → Bool
 is_behind None key = true
 is_behind (Some last) key = is_lt (slice_cmp nat_cmp last key)
 
--- the keys begin so, and come one behind another, the first behind this one, if there is one
+-- the keys begin so, and come one after another, the first after this one, if there is one
 abbrev pub do_follow : (prefix : List ℕ) → (last : Option (List ℕ)) → List Row → Bool
 do_follow prefix last [] = true
 do_follow prefix last (row ∷ rows) = is_behind last row.0 && starts_with nat_eq row.0 prefix && do_follow prefix (Some row.0) rows
@@ -56,7 +56,7 @@ PrintsRows keeps_finals beyond [] before after = after ≡ before
 PrintsRows keeps_finals beyond (row ∷ rows) before after = (line : Account) × TakesBytes before line (line_of_row (standing_told keeps_finals beyond row.0) row)
     × PrintsRows keeps_finals beyond rows line after
 
--- and behind them how many there are, and what was held by the server that told them
+-- and after them how many there are, and what was held by the server that told them
 pub record PrintsList (keeps_finals : Bool) (servers : ℕ) (named : Option (List ℕ)) (beyond : Option Beyond) (rows : Rows) (before after : Account) : Type 0 where
   pub line : Account
   pub each : PrintsRows keeps_finals beyond rows.each.items before line
@@ -67,7 +67,7 @@ abbrev pub prefix_named : Option (List ℕ) → List ℕ
 prefix_named None = []
 prefix_named (Some prefix) = prefix
 
--- The rows whose keys begin so are printed, each key once and in order; or why they weren't told, or that they weren't.
+-- The rows whose keys begin so are printed, each key once and in order; or why they didn't come, or that they didn't.
 abbrev pub Lists : SessionId → (named : Option (List ℕ)) → (old new : Desk) → (before after : Account) → Type 0
 Lists who named old new before after =
     ((rows : Rows) × (beyond : Option Beyond) × AreListed (prefix_named named) rows.each.items × (new.is_served ≡ old.is_served)

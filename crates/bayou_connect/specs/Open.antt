@@ -29,6 +29,6 @@ wrong_of became.Ended = None
 abbrev pub DoesAlone : (line : List ℕ) → (old new : Desk) → (before after : Account) → Became → Type 0
 DoesAlone line old new before after done = (words : List ℕ) × IsTrimAscii line words × DoesLine line words (Ok done) (record old { is_served = true }) new before after
 
--- and how it ends: as lines do of which it is the only one
+-- and how it ends: as lines do where it is the only one
 abbrev pub EndsAlone : (line : List ℕ) → (old : Desk) → (before after : Account) → Ended → Type 0
 EndsAlone line old before after ended = (done : Became) × (new : Desk) × DoesAlone line old new before after done × (ended ≡ ended_as (is_some (wrong_of done)) new.is_served)

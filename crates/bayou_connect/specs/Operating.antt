@@ -1,4 +1,4 @@
--- What becomes of a session at one server, by what it is told: this project's own (sessions by Terry et al. 1994).
+-- What becomes of a session at one server, by what it hears: this project's own (sessions by Terry et al. 1994).
 use Rattle.std.specs.Prelude.{◌≡◌, ◌≢◌, Bool, true, false, Option, None, Some, Result, Ok, Err}
 use Rattle.bayou_answers.specs.declared.answer.Recovery.{Recovery}
 use Rattle.bayou_answers.specs.declared.answer.Recovery.TheVariants.{NotReopened, Reopened}
@@ -46,7 +46,7 @@ abbrev pub sent_again : Asking → Option Asked → Asking
 sent_again old None = old
 sent_again old (Some asked) = asks_once_more old
 
--- what a session is behind each answer: a read saw what the server held, and of no other answer it is told
+-- what a session is after each answer: a read saw what the server held, and it learns of no other answer
 abbrev pub TellsRead : (sent new : Asking) → Told → Type 0
 TellsRead sent new told.Away = ⊥
 TellsRead sent new (told.Seen seen) = new ≡ told_seen sent seen
@@ -86,7 +86,7 @@ TellsWrite sent new (told.Accepted accepted) = new ≡ told_accepted sent accept
 TellsWrite sent new (told.Refused fault) = new ≡ sent
 TellsWrite sent new told.Lost = new ≡ sent
 
--- the same behind what was attempted at this server: as it is sent one place more is begun, and a Write may be asked again from then on
+-- the same after what was attempted at this server: as it is sent one place more is begun, and a Write may be asked again from then on
 abbrev pub HasDone : Attempt → ServerId → (old new : Asking) → Told → Type 0
 HasDone (attempts.Read key) server old new told = TellsRead (begins_read old) new told
 HasDone (attempts.List asked) server old new told = TellsRows (begins_read old) new told

@@ -1,4 +1,4 @@
--- What a person is told of own Writes: this project's own.
+-- What a person learns of own Writes: this project's own.
 use Rattle.std.specs.Prelude.{◌≡◌, ◌==◌, ◌+◌, if◌then◌else◌, ℕ, zero, suc, Bool, true, false, MatchBool, MatchOption, Option, None, Some, slice_get}
 use Rattle.std.specs.Option.{option_map}
 use Rattle.bayou_base.specs.declared.limits.TheConstants.{MAX_OWN_WRITES}
@@ -13,16 +13,16 @@ use Rattle.bayou_print.specs.Standing.{forgotten_text, standing_text}
 use Rattle.bayou_streams.specs.Account.{Account, TakesBytes}
 use Rattle.bayou_wire.specs.declared.lookup.Placed.{Placed}
 
--- a Write that was accepted, as an own one, with what was told of it
+-- a Write that was accepted, as an own one, with what was reported of it
 abbrev pub own_write : Made → Option Placed → OwnWrite
 own_write made placed = record { wid = made.wid; clock = made.clock; told = option_map (λ (one : Placed). one.became) placed }
 
--- that one goes is told
+-- that one goes is reported
 abbrev pub TellsGone : (gone : Option OwnWrite) → (before after : Account) → Type 0
 TellsGone None before after = after ≡ before
 TellsGone (Some gone) before after = TakesBytes before after (forgotten_text 0 gone.wid)
 
--- an own Write is kept, where it is kept what is final, and the one that goes for it is told
+-- an own Write is kept, where it is kept what is final, and the one that goes for it is reported
 abbrev pub KeepsOwn : (old : Option Outlook) → OwnWrite → (new : Option Outlook) → (before after : Account) → Type 0
 KeepsOwn old write new before after = MatchBool (keeps_finals old)
     ((gone : Option OwnWrite) × HasMade old write gone new × TellsGone gone before after)
@@ -34,13 +34,13 @@ is_final Tentative = false
 is_final Final = true
 is_final Changed = false
 
--- Of an own Write that a server told to have become this: how it stands, where that is news or all are told. Whether it is kept no longer.
+-- Of an own Write that a server told to have become this: how it stands, where that is news or all are reported. Whether it is kept no longer.
 abbrev pub TellsStanding : (old : Option Outlook) → (place : ℕ) → OwnWrite → Telling → Placed → (gone : Bool) → (new : Option Outlook) → (before after : Account) → Type 0
 TellsStanding old place write telling placed gone new before after = (news : Option Standing) × HasTold old place placed.became news new
     × MatchOption (told_as telling news) ((gone ≡ false) × (after ≡ before))
     (λ standing. (gone ≡ is_final standing) × TakesBytes before after (standing_text 0 standing write.wid (Some placed)))
 
--- An own Write: nothing where no server tells what became of it. Where another Write has its name by now, its server lost it: then it is forgotten, which is told.
+-- An own Write: nothing where no server tells what became of it. Where another Write has its name by now, its server lost it: then it is reported as forgotten.
 abbrev pub TellsOwn : (old : Option Outlook) → (place : ℕ) → OwnWrite → Telling → (gone : Bool) → (new : Option Outlook) → (before after : Account) → Type 0
 TellsOwn old place write telling gone new before after = (placed : Option Placed) × MatchOption placed ((gone ≡ false) × (new ≡ old) × (after ≡ before))
     (λ placed. MatchBool (placed.clock == write.clock)

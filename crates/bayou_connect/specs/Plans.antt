@@ -85,7 +85,7 @@ NameTwice words =
     (at : ℕ) × (later : ℕ) × (one : List ℕ) × (other : List ℕ) × (first : Place) × (second : Place) × (at < later)
     × (slice_get words at ≡ Some one) × (slice_get words later ≡ Some other) × SaysPlace one first × SaysPlace other second × (first.id ≡ second.id)
 
--- What is wrong with the words, by the fault that is told of them. Memory may run out.
+-- What is wrong with the words, by the fault that is reported of them. Memory may run out.
 abbrev pub IsWrong : (servers : List (List ℕ)) → (count : Option ℕ) → (asks : Option (List ℕ)) → PlanFault → Type 0
 IsWrong servers count asks fault.NoServer = (servers ≡ []) ⊎ Any (λ (word : List ℕ). (place : Place) → ¬ SaysPlace word place) servers
 IsWrong servers count asks fault.SameServer = NameTwice servers

@@ -18,7 +18,7 @@ use Rattle.bayou_base.specs.declared.server.ServerId.{ServerId}
 use Rattle.bayou_client.specs.declared.fault.LinkFault.{LinkFault}
 use Rattle.bayou_connect.specs.Operating.{recovery_told}
 
--- the line of what an operation was told, of which the key is one if it is a read
+-- the line of what an operation heard, with its key if it is a read
 abbrev pub told_text : (servers : ℕ) → SessionId → (key : Option (List ℕ)) → Told → List ℕ
 told_text servers who key told.Away = away_text who.index
 told_text servers who (Some key) (told.Seen seen) = last_text servers (answers.Read who key seen)

@@ -11,14 +11,14 @@ use Rattle.bayou_connect.specs.declared.lines.Next.TheVariants.{Line, TooLong, E
 abbrev pub rest_of : {R : Type 0} → Lines R → List ℕ
 rest_of lines = slice_range lines.piece lines.from lines.to
 
--- the bytes that are left of the input, where it is known what its reader has left: behind its end nothing more is read
+-- the bytes that are left of the input, where it is known what its reader has left: after its end nothing more is read
 abbrev pub left_in : {R : Type 0} → (R → Option (List ℕ)) → Lines R → Option (List ℕ)
 left_in remaining lines = option_map (λ (xs : List ℕ). rest_of lines ++ (if lines.has_ended then [] else xs)) (remaining lines.reader)
 
 abbrev pub is_line_feed : ℕ → Bool
 is_line_feed byte = byte == 10
 
--- These bytes were taken of those that are left, none of which is a line feed; and one behind them, where the line ended.
+-- These bytes were taken of those that are left, none of which is a line feed; and one after them, where the line ended.
 abbrev pub GivesPart : (old new : Option (List ℕ)) → (passed : List ℕ) → (ended : Bool) → Type 0
 GivesPart None new passed ended = position_or_len is_line_feed passed ≡ length passed
 GivesPart (Some bytes) None passed ended = ⊥
@@ -33,7 +33,7 @@ PutsLine (Some bytes) (Some rest) line has_any = MatchBool has_any
     ((0 < length bytes) × (line ≡ take (MAX_LINE_BYTES + 1) (before_first is_line_feed bytes)) × (rest ≡ after_first is_line_feed bytes))
     ((bytes ≡ []) × (rest ≡ []))
 
--- The next line of the bytes that are left, and those behind its line feed: all up to that, unless it is too long. Where no byte is left there is none.
+-- The next line of the bytes that are left, and those after its line feed: all up to that, unless it is too long. Where no byte is left there is none.
 abbrev pub TakesLine : (old new : Option (List ℕ)) → Next → Type 0
 TakesLine None new next = Unit {0}
 TakesLine (Some bytes) None next = ⊥

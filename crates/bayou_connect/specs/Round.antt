@@ -39,12 +39,12 @@ is_last last at = slice_index_or last at false
 abbrev pub but_last : List Bool → List ℕ → List ℕ
 but_last last order = filter (λ at. not (is_last last at)) order ++ filter (is_last last) order
 
--- all of them from this one on, but those that are last behind all others
+-- all of them from this one on, but those that are last after all others
 abbrev pub turns_but_last : List Bool → (first count : ℕ) → List ℕ
 turns_but_last last first count = but_last last (turns first count)
 
--- The servers are asked in this order, each of them once at the most: up to the first after which no other may be asked, and what that told is
--- told. Where there is none, the last refusal or lost reply is told, or what stood before.
+-- The servers are asked in this order, each of them once at the most: up to the first after which no other may be asked, and its answer is
+-- given. Where there is none, the last refusal or lost reply is reported, or what stood before.
 abbrev pub AsksInTurn : {S : Type 0} → (S → ℕ → S → Told → Type 0) → (is_read : Bool) → List ℕ → (before : Told) → (old new : S) → Told → Type 0
 AsksInTurn asks is_read [] before old new result = (new ≡ old) × (result ≡ before)
 AsksInTurn {S} asks is_read (at ∷ order) before old new result =

@@ -57,7 +57,7 @@ pub record AsksToWait (line : List ℕ) (seconds : ℕ) : Type 0 where
   pub digits : IsNumeral 10 (after_first is_space line)
   pub number : seconds ≡ digits_value 10 (after_first is_space line)
 
--- what a line of a script that wasn't read is told as; want of memory ends all
+-- what a line of a script that wasn't read is reported as; want of memory ends all
 abbrev pub unread_line : LineFault → Result Wrong ConnectFault
 unread_line lines.OutOfMemory = Err Memory
 unread_line lines.NotJson = Ok (Script scripts.NotJson)
@@ -79,7 +79,7 @@ DoesSaid line old new before after done = (one : Line) × Spells line (said one)
 abbrev pub IsUnread : (line : List ℕ) → (old new : Desk) → (before after : Account) → Wrong → Type 0
 IsUnread line old new before after wrong = (fault : LineFault) × IsRefusalOf line fault × (unread_line fault ≡ Ok wrong) × (new ≡ old) × (after ≡ before)
 
--- A line of a script, done; or it is told that it is wrong: it isn't read, or says what can't be done here.
+-- A line of a script, done; or it is reported that it is wrong: it isn't read, or says what can't be done here.
 abbrev pub DoesScriptLine : (line : List ℕ) → (old new : Desk) → (before after : Account) → Became → Type 0
 DoesScriptLine line old new before after became.Done = DoesSaid line old new before after true
 DoesScriptLine line old new before after (became.Wrong wrong) =
@@ -91,7 +91,7 @@ DoesScriptLine line old new before after became.Ended = ⊥
 abbrev pub IsNoWish : (line : List ℕ) → WishFault → Type 0
 IsNoWish line fault = ((fault ≡ Word) × ¬ (IsUtf8 line)) ⊎ IsFaultOf line fault
 
--- A wish, done; or it is told that the line is wrong: it is none, or one that can't be done here.
+-- A wish, done; or it is reported that the line is wrong: it is none, or one that can't be done here.
 abbrev pub DoesWishLine : (line : List ℕ) → (old new : Desk) → (before after : Account) → Became → Type 0
 DoesWishLine line old new before after became.Done = (wish : Wish) × Wishes line wish × DoesWish wish old new before after true
 DoesWishLine line old new before after (became.Wrong (NoWish fault)) = IsNoWish line fault × (new ≡ old) × (after ≡ before)

@@ -1,4 +1,4 @@
--- How the value of a key stands, as a person is told: this project's own.
+-- How the value of a key stands, as a person learns: this project's own.
 use Rattle.std.specs.Prelude.{◌≡◌, List, ℕ, if◌then◌else◌, MatchOption, Option, None, is_some}
 use Rattle.bayou_connect.specs.Finals.{IsLearnt, finals_in, keeps_finals, outlook_of}
 use Rattle.bayou_connect.specs.Listing.{standing_told}

@@ -80,14 +80,14 @@ impl Attempt {
     }
 }
 
-/// What became of it: what the session was told, and what is entered of it.
+/// What became of it: what the session heard, and what is entered of it.
 #[derive(Drop)]
 pub(crate) struct Done {
     pub(crate) told: Told,
     pub(crate) entry: Option<Entry>,
 }
 
-// What an operation is told that wasn't served.
+// What an operation hears that wasn't served.
 fn unserved(fault: LinkFault) -> Told
     ensures { IsNoService result }
 {
@@ -97,7 +97,7 @@ fn unserved(fault: LinkFault) -> Told
     }
 }
 
-// What a session is told that has heard this of a read.
+// What a session hears that has heard this of a read.
 fn done_by_read(heard: Heard<Seen>) -> Done
     ensures { (begun : Asking) → TellsRead begun (heard_by told_seen begun heard.told) result.told }
 {
@@ -114,7 +114,7 @@ fn done_by_read(heard: Heard<Seen>) -> Done
     }
 }
 
-// What a session is told that has heard this of rows.
+// What a session hears that has heard this of rows.
 fn done_by_rows(heard: Heard<Page>) -> Done
     ensures { (begun : Asking) → TellsRows begun (heard_by told_rows begun heard.told) result.told }
 {
@@ -131,7 +131,7 @@ fn done_by_rows(heard: Heard<Page>) -> Done
     }
 }
 
-// What a session is told that has heard this of what became of a Write.
+// What a session hears that has heard this of what became of a Write.
 fn done_by_fate(heard: Heard<Fate>) -> Done
     ensures { (begun : Asking) → TellsFate begun (heard_by told_fate begun heard.told) result.told }
 {
@@ -148,7 +148,7 @@ fn done_by_fate(heard: Heard<Fate>) -> Done
     }
 }
 
-// What a session is told that has heard this of a Write.
+// What a session hears that has heard this of a Write.
 fn done_by_write(heard: Heard<Accepted>) -> Done
     ensures { (begun : Asking) → TellsWrite begun (heard_by told_accepted begun heard.told) result.told }
 {
@@ -175,7 +175,7 @@ fn keep(alloc: Global, state: &mut Option<StateFile>, asker: &Asker) -> Result<(
     }
 }
 
-// Tells what was done, once the session is kept as it was told.
+// Tells what was done, once the session is kept as it heard.
 fn tell(
     alloc: Global,
     state: &mut Option<StateFile>,
@@ -296,7 +296,7 @@ fn again<R: Read, W: Write>(
     write(alloc, state, asker, link)
 }
 
-/// Has the session do this at this server, which the link goes to. A Write that is sent was kept before, and the session is kept as it was told before
+/// Has the session do this at this server, which the link goes to. A Write that is sent was kept before, and the session is kept as it heard before
 /// anybody hears of it.
 pub(crate) fn operate<R: Read, W: Write>(
     alloc: Global,

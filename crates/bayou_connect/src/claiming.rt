@@ -42,7 +42,7 @@ fn is_other(told: &Told, value: &Value) -> bool
     }
 }
 
-// Whether a claim is told to have done nothing: each of its keys has another value, and it isn't known what became of it.
+// Whether a claim is reported to have done nothing: each of its keys has another value, and it isn't known what became of it.
 fn came_to_nothing(are_other: bool, is_known: bool) -> bool
     ensures { result ≡ (are_other && not is_known) }
 {
@@ -63,7 +63,7 @@ fn is_text(seen: &Option<Seen>) -> bool
 }
 
 impl Desk {
-    // Has the session read the key, at any server. Whether the key has another value than this; else what was told is printed.
+    // Has the session read the key, at any server. Whether the key has another value than this; else what it learned is printed.
     fn is_free<W: Write, T: Files<File = File> + Sockets + Wait + Clock>(
         &mut self,
         rt: &T,
@@ -84,7 +84,7 @@ impl Desk {
         Ok(false)
     }
 
-    // Whether none of the keys has the value, as far as the session can see: else what was told of the first that has it is printed, or of the
+    // Whether none of the keys has the value, as far as the session can see: else what it learned of the first that has it is printed, or of the
     // first that couldn't be read.
     fn are_free<W: Write, T: Files<File = File> + Sockets + Wait + Clock>(
         &mut self,
@@ -150,7 +150,7 @@ impl Desk {
     }
 
     // Prints what a claim came to, by the server that accepted it: what each key has, up to the first that has the value; and that it did nothing,
-    // where each has another and it wasn't told before what became of it.
+    // where each has another and no server reported before what became of it.
     fn tell_claim<W: Write, T: Files<File = File> + Sockets + Wait + Clock>(
         &mut self,
         rt: &T,

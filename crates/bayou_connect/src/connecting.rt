@@ -40,7 +40,7 @@ use std::random::RandomSource;
 use std::sync::Wait;
 use std::time::Clock;
 
-/// What is told where a Write was refused since a log is full.
+/// What is reported where a Write was refused since a log is full.
 const FULL: &str =
     "bayou: the log is full: start its server with a greater --limit, or go on at a new store, which `bayou renew` makes (docs/SERVE.md)\n";
 
@@ -72,7 +72,7 @@ pub enum Ended {
     Refused,
 }
 
-// Tells what is wrong with a line, as far as it can be told.
+// Reports what is wrong with a line, as far as it can.
 pub(crate) fn tell_wrong<E: Write>(
     alloc: Global,
     errors: &mut E,
@@ -82,12 +82,12 @@ pub(crate) fn tell_wrong<E: Write>(
     ensures { IfErr result (λ fault. fault ≡ Memory) }
 {
     let line = format!(in alloc; "bayou: line {number}: {wrong}\n")?;
-    // Where it can't be told nothing else is to be done.
+    // Where it can't be reported nothing else is to be done.
     let _ = errors.write_all(line.as_bytes());
     Ok(())
 }
 
-// Does the next line, and tells what became of it. Behind the end of the input there is none.
+// Does the next line, and tells what became of it. After the end of the input there is none.
 fn do_next<I: Read, W: Write, T: Files<File = File> + Sockets + Wait + Clock>(
     rt: &T,
     desk: &mut Desk,
@@ -103,7 +103,7 @@ fn do_next<I: Read, W: Write, T: Files<File = File> + Sockets + Wait + Clock>(
     }
 }
 
-// Asks for the next line, as far as that can be told: it names the server that is asked first.
+// Asks for the next line, as far as it can; the prompt names the server that is asked first.
 fn prompt<E: Write>(desk: &Desk, errors: &mut E) -> Result<(), ConnectFault>
     ensures { IfErr result (λ fault. fault ≡ Memory) }
 {
@@ -117,7 +117,7 @@ fn prompt<E: Write>(desk: &Desk, errors: &mut E) -> Result<(), ConnectFault>
     Ok(())
 }
 
-// Tells, as far as it can be told, who answered in place of a server, where that wasn't told yet.
+// Reports, as far as it can, who answered in place of a server, where it didn't yet.
 pub(crate) fn tell_strangers<E: Write>(desk: &mut Desk, errors: &mut E) -> Result<(), ConnectFault>
     ensures same { IsSameDesk desk.old desk.new }
     ensures fault { IfErr result (λ fault. fault ≡ Memory) }
@@ -133,7 +133,7 @@ pub(crate) fn tell_strangers<E: Write>(desk: &mut Desk, errors: &mut E) -> Resul
     Ok(())
 }
 
-// Tells, as far as it can be told, that a Write was refused since a log is full, where that wasn't told yet.
+// Reports, as far as it can, that a Write was refused since a log is full, where it didn't yet.
 pub(crate) fn tell_full<E: Write>(desk: &mut Desk, errors: &mut E)
     ensures told { desk.new.store.is_full ≡ false }
     ensures same { IsSameDesk desk.old desk.new }
@@ -143,7 +143,7 @@ pub(crate) fn tell_full<E: Write>(desk: &mut Desk, errors: &mut E)
     }
 }
 
-// Does the lines that the reader has left, as they come. Each that can't be done is told; it ends the input, unless a person types it.
+// Does the lines that the reader has left, as they come. Each that can't be done is reported; it ends the input, unless a person types it.
 fn do_lines<I, W, E, T>(
     rt: &T,
     desk: &mut Desk,
@@ -239,8 +239,8 @@ pub(crate) fn drawn_run<T: RandomSource>(rt: &T) -> Result<u32, ConnectFault>
     Ok(u32::from_be_bytes(bytes).max(1))
 }
 
-// The number that session 0 has in tags and in a book: its own where it is kept, else one that is drawn, so that it is less likely that another program
-// has it in the same run.
+// The number that session 0 has in tags and in a book: its own where it is kept, else a drawn one, so that another program is less likely to have
+// it in the same run.
 pub(crate) fn first_number<T: RandomSource>(
     rt: &T,
     is_kept: bool,
@@ -268,7 +268,7 @@ pub(crate) struct Found {
     ghost one_each: { vec_len sessions ≡ NUMBER },
 }
 
-// Tells, as far as it can be told, that the last entry of the state file was dropped.
+// Reports, as far as it can, that the last entry of the state file was dropped.
 fn tell_entry<E: Write>(
     alloc: Global,
     errors: &mut E,
@@ -283,7 +283,7 @@ fn tell_entry<E: Write>(
 }
 
 // What the file of this name keeps of sessions, at the store of this key or at an open one; nothing, where there is no name. What is kept of another store
-// isn't touched. A last entry that was dropped is told.
+// isn't touched. A last entry that was dropped is reported.
 pub(crate) fn found_in<E: Write, T: Files<File = File>>(
     rt: &T,
     alloc: Global,
@@ -356,7 +356,7 @@ fn own_asks(plan: &Plan, sessions: &[Option<Asker>], who: SessionId) -> Option<A
     asks_of_both(plan.asks, asks_kept(sessions, who))
 }
 
-// Tells, as far as it can be told, that the words ask for something else than the session did when it was kept.
+// Reports, as far as it can, that the words ask for something else than the session did when it was kept.
 fn tell_other_asks<E: Write>(
     alloc: Global,
     errors: &mut E,
@@ -406,7 +406,7 @@ pub(crate) fn desk_of(
 }
 
 // A desk at the servers of the plan, with what is kept of sessions. `None` where the plan asks for something else than the session of short lines did when it
-// was kept: that is told, and nothing is asked.
+// was kept: that is reported, and nothing is asked.
 pub(crate) fn opened_desk<E, T>(
     rt: &T,
     alloc: Global,
@@ -455,7 +455,7 @@ where
 /// Does the lines of an input as they come, at the servers of the plan, until it ends, or until a line can't be done that no person types. With the key of a
 /// store a server that doesn't prove that it has that key is asked nothing. What
 /// sessions read and wrote is kept in a file, and what they were served goes into another, where these have names. Where the plan asks for something else
-/// than the session of short lines did when it was kept, that is told, and nothing is asked.
+/// than the session of short lines did when it was kept, that is reported, and nothing is asked.
 pub fn connect_plan<I, W, E, T>(
     rt: &T,
     alloc: Global,

@@ -32,19 +32,19 @@ pub(crate) struct Desk {
     pub(crate) first_number: SessionId,
     /// The server that short lines ask first, by its place in the list.
     pub(crate) first: usize,
-    /// How often a short line goes round once more, each time behind a rest.
+    /// How often a short line goes round once more, each time after a rest.
     pub(crate) rounds: u64,
     /// Which sessions a line has opened.
     pub(crate) opened: [bool; SESSIONS],
     /// Whether each operation was served so far.
     pub(crate) is_served: bool,
-    /// Whether an own Write was told to have come to nothing for good.
+    /// Whether an own Write was reported to have come to nothing for good.
     pub(crate) is_void: bool,
     pub(crate) ghost number: { servers ≤ NUMBER },
     pub(crate) ghost runs: { 0 < run },
 }
 
-/// A Write that was accepted: by the server of which place in the list, and its name.
+/// A Write that was accepted: its server's place in the list, and its name.
 #[derive(Clone, Copy, Debug, PartialEq, Eq)]
 pub(crate) struct Made {
     pub(crate) at: usize,
@@ -75,7 +75,7 @@ pub(crate) fn print<W: Write>(output: &mut Output<W>, line: &str) -> Result<(), 
 }
 
 impl Desk {
-    // Prints what an operation was told, of which the key is one if it is a read.
+    // Prints what an operation heard, with its key if it is a read.
     pub(crate) fn finish<W: Write>(
         &mut self,
         output: &mut Output<W>,
@@ -130,7 +130,7 @@ impl Desk {
         Some(Made { at, wid, clock })
     }
 
-    // The Write that was accepted, if it was told that one was, where its server is at hand.
+    // The Write that was accepted, if it was reported that one was, where its server is at hand.
     pub(crate) fn made_by(&self, told: &Told) -> Option<Made>
         ensures { IsMade self.now.store.accesses.items told.now result }
     {

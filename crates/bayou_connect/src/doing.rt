@@ -51,9 +51,9 @@ pub(crate) enum Became {
 pub(crate) enum Spoken {
     /// To ask the last Write again.
     Again,
-    /// To be told what lines there are.
+    /// To learn what lines there are.
     Help,
-    /// To be told how own Writes stand.
+    /// To learn how own Writes stand.
     Mine,
     /// To wait until own Writes are final.
     Wait,
@@ -61,7 +61,7 @@ pub(crate) enum Spoken {
     Quit,
 }
 
-// What a line of a script that wasn't read is told as.
+// What a line of a script that wasn't read is reported as.
 fn wrong_of(fault: LineFault) -> Result<Wrong, ConnectFault>
     ensures { result ≡ unread_line fault }
 {
@@ -94,7 +94,7 @@ fn do_script_line<W: Write, T: Files<File = File> + Sockets + Wait + Clock>(
     Ok(Became::Wrong(Wrong::Script(ScriptFault::OutOfPlace)))
 }
 
-// For how many seconds a line asks to wait, if it says that in digits behind the word.
+// For how many seconds a line asks to wait, if it says that in digits after the word.
 fn seconds_in(line: &[u8]) -> Option<u32>
     ensures { IfSome result (AsksToWait line.now) }
 {

@@ -43,7 +43,7 @@ pub enum NotTaken {
     Changed,
 }
 
-// Why no rows were taken, of which this was told.
+// Why no rows were taken, by this answer.
 fn untaken(told: &Told) -> NotTaken
     ensures { result ≡ untaken_as told.now }
 {

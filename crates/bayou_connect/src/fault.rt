@@ -25,7 +25,7 @@ pub enum ConnectFault {
     /// The state file is something else.
     #[error("it is no state of sessions; nothing was changed")]
     NotAState,
-    /// What stands behind the whole entries of the state file is more than one that was torn.
+    /// What stands after the whole entries of the state file is more than one that was torn.
     #[error("it is whole up to byte {whole}, and the {behind} bytes behind that are damaged; nothing was changed")]
     StateDamaged { whole: usize, behind: usize },
     /// A call of the state file failed.

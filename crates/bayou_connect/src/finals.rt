@@ -1,4 +1,4 @@
-//! What a person is told of what is final.
+//! What a person learns of what is final.
 ghost use Rattle.std.specs.Prelude.{◌≡◌, ◌+◌, ◌-◌, ◌^◌, ◌&&◌, ◌||◌, [], if◌then◌else◌, IfOk, None, Ok, OnOk, Some, is_none, min, not, slice_get, true};
 ghost use Rattle.bayou_connect.specs.Beyond.{standing_at};
 ghost use Rattle.bayou_connect.specs.Desks.{IsSameDesk};
@@ -32,16 +32,16 @@ const REST_MILLISECONDS: u64 = 250;
 /// For how long it is waited for that where nothing is said, in seconds.
 pub(crate) const WAIT_SECONDS: u32 = 60;
 
-/// Which own Writes are told.
+/// Which own Writes are reported.
 #[derive(Clone, Copy, Debug, PartialEq, Eq)]
 pub(crate) enum Telling {
-    /// Those of which there is news.
+    /// Those with news.
     News,
     /// All.
     All,
 }
 
-// How an own Write is told to stand, of which this is news: where all are told, one of which there is none stands as it did, and may change.
+// How an own Write is reported to stand, by what is news of it: where all are reported, one without news stands as it did, and may change.
 fn standing_told(news: Option<Standing>, telling: Telling) -> Option<Standing>
     ensures { result ≡ told_as telling news }
 {
@@ -64,8 +64,8 @@ fn place_behind(place: usize, is_gone: bool) -> usize
 }
 
 impl Desk {
-    /// Keeps an own Write that was accepted, with what was told of it, where it is kept what is final. The oldest goes where there are as many as may be,
-    /// which is told.
+    /// Keeps an own Write that was accepted, with what was reported of it, where it is kept what is final. The oldest goes where there are as many as may be,
+    /// which is reported.
     pub(crate) fn keep_own<W: Write, T: Files<File = File> + Clock>(
         &mut self,
         rt: &T,
@@ -111,7 +111,7 @@ impl Desk {
         Ok(true)
     }
 
-    // Tells how the own Write of this place stands, where there is news of it or all are told. Whether it is kept no longer.
+    // Tells how the own Write of this place stands, where there is news of it or all are reported. Whether it is kept no longer.
     fn tell_own<W: Write, T: Sockets + Clock>(
         &mut self,
         rt: &T,
@@ -159,7 +159,7 @@ impl Desk {
         print(output, line.as_str())
     }
 
-    // Tells how own Writes stand: all of them, or those of which there is news.
+    // Tells how own Writes stand: all of them, or those with news.
     fn tell_each_own<W: Write, T: Sockets + Clock>(
         &mut self,
         rt: &T,
@@ -181,7 +181,7 @@ impl Desk {
         Ok(())
     }
 
-    /// Asks servers what is final by now, and tells how own Writes stand; where news alone is told, and there are none, nobody is asked. What was told is
+    /// Asks servers what is final by now, and tells how own Writes stand; where only news is reported, and there is none, nobody is asked. What it told is
     /// kept once it is printed.
     pub(crate) fn tell_finals<W: Write, T: Files<File = File> + Sockets + Clock>(
         &mut self,
@@ -201,7 +201,7 @@ impl Desk {
         self.store.keep_views(rt)
     }
 
-    /// Tells how own Writes stand of which there is news, by what servers told before of what they hold. What was told is kept once it is printed.
+    /// Tells how own Writes with news stand, by what servers told before of what they hold. What it tells is kept once it is printed.
     pub(crate) fn tell_news<W: Write, T: Files<File = File> + Sockets + Clock>(
         &mut self,
         rt: &T,

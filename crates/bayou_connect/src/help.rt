@@ -1,4 +1,4 @@
-//! The lines that there are, as a person is told of them.
+//! The lines that there are, as a person learns of them.
 
 /// What `help` prints.
 pub(crate) const HELP: &str =

@@ -28,7 +28,7 @@ use std::time::{Clock, Duration};
 #[derive(Clone, Copy, Debug)]
 pub struct Target {
     pub place: Place,
-    /// How often a server that is away, or whose reply was lost, is asked once more, each time behind a rest.
+    /// How often a server that is away, or whose reply was lost, is asked once more, each time after a rest.
     pub rounds: u64,
     /// How long it has for its connection and its whole reply.
     pub timeout_seconds: u32,
@@ -71,7 +71,7 @@ fn program_of(alloc: Global, rows: &[(Key, Value)]) -> Result<RestingProgram, Al
     Ok(RestingProgram::of_update(puts_of(alloc, rows)?))
 }
 
-// The session that puts rows, behind so many Writes: it asks for nothing.
+// The session that puts rows, after so many Writes: it asks for nothing.
 fn asker_at(run: u32, writes: u32) -> Asker
     requires { 0 < run }
     ensures { IsBegunAt run writes result }
@@ -86,7 +86,7 @@ fn asker_at(run: u32, writes: u32) -> Asker
     Asker::new(Session::resume(OWN, NONE, past), None)
 }
 
-// Why a Write wasn't accepted of which this was told, if it wasn't, unless memory ran out here.
+// Why a Write that got this answer wasn't accepted, if it wasn't, unless memory ran out here.
 fn stop_of(told: Result<Accepted, LinkFault>) -> Result<Option<NotPut>, ConnectFault>
     ensures { result ≡ stopped_as told }
 {
@@ -109,7 +109,7 @@ struct Putting<'a, T> {
 }
 
 impl<'a, T: Sockets + Wait + Clock> Putting<'a, T> {
-    // The session that asks the server for the Write behind so many, which puts these rows.
+    // The session that asks the server for the Write after so many, which puts these rows.
     fn asker_of(&self, rows: &[(Key, Value)], writes: u32) -> Result<Asker, AllocError>
         requires few { length rows.now ≤ MOST_OPS }
         requires left { writes < MOST_PLACES }
@@ -121,7 +121,7 @@ impl<'a, T: Sockets + Wait + Clock> Putting<'a, T> {
         Ok(asker)
     }
 
-    // Has the server do the Write behind so many, which puts these rows, once: why it wasn't accepted, if it wasn't.
+    // Has the server do the Write after so many, which puts these rows, once: why it wasn't accepted, if it wasn't.
     fn put_once(
         &mut self,
         rows: &[(Key, Value)],
@@ -143,7 +143,7 @@ impl<'a, T: Sockets + Wait + Clock> Putting<'a, T> {
         stop_of(heard.told)
     }
 
-    // The same, and again, each time behind a rest, where it isn't known whether it was accepted, or it wasn't sent.
+    // The same, and again, each time after a rest, where it isn't known whether it was accepted, or it wasn't sent.
     fn put(&mut self, rows: &[(Key, Value)], writes: u32) -> Result<Option<NotPut>, ConnectFault>
         requires few { length rows.now ≤ MOST_OPS }
         requires left { writes < MOST_PLACES }
@@ -190,7 +190,7 @@ impl<'a, T: Sockets + Wait + Clock> Putting<'a, T> {
         })
     }
 
-    // Tells, as far as it can be told, who answered in place of the server, where that wasn't told yet.
+    // Reports, as far as it can, who answered in place of the server, where it didn't yet.
     fn tell_stranger<E: Write>(&mut self, errors: &mut E) -> Result<(), ConnectFault>
         ensures same { self.new.target ≡ self.old.target }
         ensures fault { IfErr result (λ fault. fault ≡ Memory) }
@@ -205,7 +205,7 @@ impl<'a, T: Sockets + Wait + Clock> Putting<'a, T> {
 }
 
 /// Puts the rows, as many a Write as it may have, one Write after another: how far that came. A Write is asked under a name that follows from the run and from
-/// how many are before it, so that one that was accepted before, under the same run and of the same rows, acts once. At a terminal it is told meanwhile how
+/// how many are before it, so that one that was accepted before, under the same run and of the same rows, acts once. A terminal shows meanwhile how
 /// far it is.
 pub fn put_rows<E, T>(
     rt: &T,

@@ -116,7 +116,7 @@ impl<R: Read> Lines<R> {
         self.fill()
     }
 
-    // Puts what of the line is in the piece behind the line, as far as a line may be long and one byte more. Whether the line ended.
+    // Puts what of the line is in the piece after the line, as far as a line may be long and one byte more. Whether the line ended.
     fn take_into(&mut self, line: &mut Vec<u8>) -> Result<bool, LineFault>
         requires { self.old.from < self.old.to }
         ensures { IfOk result (λ ended. (passed : List ℕ) × GivesPart (left_in R.remaining self.old) (left_in R.remaining self.new) passed ended
@@ -139,7 +139,7 @@ impl<R: Read> Lines<R> {
         }
     }
 
-    // Puts the next line behind none, as far as a line may be long and one byte more. Whether there is one.
+    // Puts the next line after none, as far as a line may be long and one byte more. Whether there is one.
     fn take_line(&mut self, line: &mut Vec<u8>) -> Result<bool, LineFault>
         requires { line.old.items ≡ [] }
         ensures { IfOk result (λ has_any. PutsLine (left_in R.remaining self.old) (left_in R.remaining self.new) line.new.items has_any) }

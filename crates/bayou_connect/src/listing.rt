@@ -30,28 +30,28 @@ const TIMES_ANEW: u32 = 2;
 /// How many pages a list has at the most: each but the last is full, and each Write changes at most so many keys.
 const MAX_PAGES: usize = MAX_WRITES as usize * MAX_OPS / ROWS_AT_ONCE + 1;
 
-/// What was told of rows.
+/// What servers listed of rows.
 #[derive(Drop)]
 pub(crate) struct Rows {
     pub(crate) each: Vec<(Key, Value)>,
     /// What the server held that told the last of them.
     pub(crate) vector: Vector,
-    /// Whether some of them were told by what held less.
+    /// Whether some of them came of a server that held less.
     pub(crate) is_mixed: bool,
 }
 
 /// How a list goes on.
 #[derive(Drop)]
 enum Paged {
-    /// All rows were told.
+    /// All rows came.
     Whole,
     /// The next are of another database than those before.
     Changed,
-    /// The next weren't told.
+    /// The next didn't come.
     Untold(Told),
 }
 
-// Whether the key comes behind that one, if there is one.
+// Whether the key comes after that one, if there is one.
 fn comes_behind(last: Option<&Key>, key: &Key) -> bool
     ensures { result ≡ is_behind (option_copied last.entry) key.now }
 {
@@ -69,14 +69,14 @@ fn begins(prefix: &Prefix, key: &Key) -> bool
     key.starts_with(prefix)
 }
 
-// Whether the key comes behind that one, if there is one, and begins so.
+// Whether the key comes after that one, if there is one, and begins so.
 fn is_next(prefix: &Prefix, last: Option<&Key>, key: &Key) -> bool
     ensures { result ≡ (is_behind (option_copied last.entry) key.now && starts_with nat_eq key.now prefix.now) }
 {
     comes_behind(last, key) && begins(prefix, key)
 }
 
-// Whether the rows begin so, and come one after another behind this key, if there is one.
+// Whether the rows begin so, and come one after another after this key, if there is one.
 fn follow(prefix: &Prefix, after: Option<&Key>, rows: &[(Key, Value)]) -> bool
     ensures { result ≡ do_follow prefix.now (option_copied after.entry) rows.now }
 {
@@ -90,7 +90,7 @@ fn follow(prefix: &Prefix, after: Option<&Key>, rows: &[(Key, Value)]) -> bool
     true
 }
 
-// The rows that are asked for: those behind this key, if there is one, of what holds this.
+// The rows that are asked for: those after this key, if there is one, of what holds this.
 fn asked(prefix: &Prefix, need: Vector, after: Option<Key>) -> RowsAsked
     ensures { (result.need ≡ need) × (result.prefix ≡ prefix.now) × (result.after ≡ after) }
 {
@@ -102,7 +102,7 @@ fn asked(prefix: &Prefix, need: Vector, after: Option<Key>) -> RowsAsked
     }
 }
 
-// Puts these rows behind the others.
+// Puts these rows after the others.
 fn add_rows(each: &mut Vec<(Key, Value)>, rows: &[(Key, Value)]) -> Result<(), AllocError>
     ensures { OnOk result (each.new.items ≡ each.old.items ++ rows.now) }
 {
@@ -113,7 +113,7 @@ fn add_rows(each: &mut Vec<(Key, Value)>, rows: &[(Key, Value)]) -> Result<(), A
 }
 
 impl Rows {
-    // None are told yet.
+    // None came yet.
     fn none(alloc: Global) -> Self
         ensures { result.each.items ≡ [] }
     {
@@ -124,7 +124,7 @@ impl Rows {
         }
     }
 
-    // The last key that was told.
+    // The last key that came.
     fn last_key(&self) -> Option<Key>
         ensures { result ≡ key_last self.now.each.items }
     {
@@ -134,7 +134,7 @@ impl Rows {
         }
     }
 
-    // Forgets what was told, but for what is held.
+    // Forgets what came, but for what is held.
     fn begin_anew(&mut self)
         ensures { (self.new.each.items ≡ []) × (self.new.vector ≡ self.old.vector) }
     {
@@ -142,7 +142,7 @@ impl Rows {
         self.is_mixed = false;
     }
 
-    // Puts the rows of a page behind the others, and tells whether more are left; or nothing where they don't follow those, or there was room for more:
+    // Puts the rows of a page after the others, and tells whether more are left; or nothing where they don't follow those, or there was room for more:
     // then what came is none that was asked for.
     fn add(&mut self, prefix: &Prefix, page: Page) -> Result<Option<bool>, AllocError>
         ensures added { IfOk result (λ more. MatchOption more (self.new ≡ self.old)
@@ -161,7 +161,7 @@ impl Rows {
 }
 
 impl Desk {
-    // Asks for the rows behind those that were told, of the server that told them: up to the last, or to one of another database, unless they may be
+    // Asks for the rows after those that came, of the server that sent them: up to the last, or to one of another database, unless they may be
     // mixed.
     fn list_on<T: Files<File = File> + Sockets + Wait + Clock>(
         &mut self,
@@ -200,7 +200,7 @@ impl Desk {
     }
 
     // The rows whose keys begin so, of one database, unless it is another again and again: then of several, each of which had what the session asks for;
-    // or why they weren't told.
+    // or why they didn't come.
     pub(crate) fn rows_of<T: Files<File = File> + Sockets + Wait + Clock>(
         &mut self,
         rt: &T,
@@ -227,7 +227,7 @@ impl Desk {
         Ok(Err(Told::Lost))
     }
 
-    // Which keys may change yet where these rows were told, as far as that is known.
+    // Which keys may change yet where these rows came from, as far as that is known.
     pub(crate) fn beyond<T: Sockets + Clock>(
         &mut self,
         rt: &T,
@@ -262,7 +262,7 @@ impl Desk {
         print(output, line.as_str())
     }
 
-    // Prints the rows, with how each value stands where that is known, and behind them how many there are and what was held.
+    // Prints the rows, with how each value stands where that is known, and after them how many there are and what was held.
     fn print_rows<W: Write>(
         &mut self,
         output: &mut Output<W>,

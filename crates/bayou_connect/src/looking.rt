@@ -320,7 +320,7 @@ impl Store {
         }
     }
 
-    /// The own Write of this place, which wasn't told as final yet.
+    /// The own Write of this place, which wasn't reported as final yet.
     pub(crate) fn own_at(&self, place: usize) -> Option<OwnWrite>
         ensures { result ≡ slice_get (own_in (outlook_of self.now.views)) place }
     {

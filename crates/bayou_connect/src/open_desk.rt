@@ -74,7 +74,7 @@ fn wrong_in(became: Became) -> Option<Wrong>
 impl OpenDesk {
     /// A desk at the servers of the plan. With the key of a store a server that doesn't prove that it has that key is asked nothing. What sessions read and
     /// wrote is kept in a file, and what they were served goes into another, where these have names. `None` where the plan asks for something else than the
-    /// session did when it was kept: that is told to `errors`, and nothing is asked.
+    /// session did when it was kept: that is reported to `errors`, and nothing is asked.
     pub fn open<E, T>(
         rt: &T,
         alloc: Global,
@@ -99,7 +99,7 @@ impl OpenDesk {
     }
 
     /// Does a line, prints what is to be printed of it, and keeps what it changed. It ends as the lines of [`connect_plan`](crate::connect_plan) would, were it
-    /// the only one; a `quit` does nothing. What is wrong with it, who answers in place of a server, and that a log is full, is told to `errors`. Behind a fault
+    /// the only one; a `quit` does nothing. What is wrong with it, who answers in place of a server, and that a log is full, go to `errors`. After a fault
     /// the desk isn't to be used any more: what was done may not be kept.
     pub fn do_line<W, E, T>(
         &mut self,
@@ -136,7 +136,7 @@ impl OpenDesk {
         }
     }
 
-    /// Tells, as far as it can be told, who answered in place of a server, where that wasn't told yet.
+    /// Reports, as far as it can, who answered in place of a server, where it didn't yet.
     pub fn tell_strangers<E: Write>(&mut self, errors: &mut E) -> Result<(), ConnectFault>
         ensures same { IsSameDesk self.old.desk self.new.desk }
         ensures fault { IfErr result (λ fault. fault ≡ Memory) }
@@ -199,7 +199,7 @@ impl OpenDesk {
         &self.views
     }
 
-    /// The own Writes that weren't told as final yet, the oldest first.
+    /// The own Writes that weren't reported as final yet, the oldest first.
     pub fn own(&self) -> &[OwnWrite]
         ensures { result.now ≡ own_in (outlook_of self.now.desk.store.views) }
     {

@@ -48,7 +48,7 @@ impl Desk {
         print(output, line.as_str())
     }
 
-    /// Prints what became of a Write that was accepted, by the server that accepted it; that this is unknown, where that doesn't tell. It is asked for
+    /// Prints what became of a Write that was accepted, by the server that accepted it; or that it is unknown, where that server doesn't tell. It is asked for
     /// nobody: the session has read nothing by it.
     pub(crate) fn tell_outcome<W: Write, T: Files<File = File> + Sockets + Clock>(
         &mut self,
@@ -79,7 +79,7 @@ impl Desk {
         }
     }
 
-    // Prints what a session was told that asked what became of a Write.
+    // Prints what a session heard that asked what became of a Write.
     fn print_told<W: Write>(
         &mut self,
         output: &mut Output<W>,

@@ -1,4 +1,4 @@
-//! How far rows are put, as it is told at a terminal.
+//! How far rows are put, as it is shown at a terminal.
 ghost use Rattle.std.specs.Prelude.{◌≡◌, ◌∷◌, ◌++◌, ◌*◌, IfErr, IfOk, Ok, codes, false, decimal, string_bytes};
 ghost use Rattle.bayou_connect.specs.declared.fault.ConnectFault.TheVariants.{Memory};
 
@@ -14,13 +14,13 @@ const PERIOD_MILLISECONDS: u64 = 1_000;
 /// What clears the line of a terminal.
 const CLEAR: &str = "\r\x1b[K";
 
-/// What is told of how far rows are put.
+/// What is reported of how far rows are put.
 #[derive(Debug, Drop)]
 pub(crate) struct Progress {
     is_terminal: bool,
     /// How many rows there are.
     of: usize,
-    /// From when on it is told again.
+    /// From when on it is shown again.
     next: u64,
     /// Whether a line of it stands there.
     is_shown: bool,
@@ -34,7 +34,7 @@ fn progress_line(alloc: Global, done: usize, of: usize) -> Result<String, AllocE
 }
 
 impl Progress {
-    /// Nothing is told yet.
+    /// Nothing is shown yet.
     pub(crate) fn new<T: Clock>(rt: &T, is_terminal: bool, of: usize) -> Self
         ensures { (result.is_terminal ≡ is_terminal) × (result.of ≡ of) }
     {
@@ -46,7 +46,7 @@ impl Progress {
         }
     }
 
-    /// Tells at a terminal, as far as it can be told, how many rows are put, unless it told that within the last second.
+    /// Shows at a terminal, as far as it can, how many rows are put, unless it did so within the last second.
     pub(crate) fn tell<T: Clock, E: Write>(
         &mut self,
         rt: &T,
@@ -70,7 +70,7 @@ impl Progress {
         Ok(())
     }
 
-    /// Clears what is told, so that what comes next stands on a line of its own.
+    /// Clears what is shown, so that what comes next stands on a line of its own.
     pub(crate) fn clear<E: Write>(&mut self, errors: &mut E)
         ensures cleared { self.new ≡ record self.old { is_shown = false } }
         ensures silent { self.old.is_shown ≡ false → errors.new ≡ errors.old }

@@ -121,7 +121,7 @@ pub(crate) struct Access {
     known: Option<Known>,
     /// How many servers its store has, as it told as it was greeted last.
     servers: Option<ServerCount>,
-    /// Who answered in its place last, if somebody else did; and whether that is still to be told.
+    /// Who answered in its place last, if somebody else did; and whether that is still to be reported.
     stranger: Option<Stranger>,
     is_news: bool,
     /// When the answer to what was asked last was to be there.
@@ -147,7 +147,7 @@ fn is_quiet(stream: &TcpStream) -> bool {
 fn stream_to<T: Sockets>(rt: &T, place: Place, left: u64) -> Option<TcpStream> {
     let time = Duration::from_millis(left);
     let stream = TcpStream::connect_timeout(rt, &place.address, time).ok()?;
-    // A socket that can't be told so sends small requests later.
+    // A socket that doesn't take this option sends small requests later.
     let _ = stream.set_nodelay(true);
     Some(stream)
 }
@@ -338,7 +338,7 @@ impl Access {
         self.known = None;
     }
 
-    /// Who answers in the server's place, if that wasn't told yet.
+    /// Who answers in the server's place, if that wasn't reported yet.
     pub(crate) fn news(&mut self) -> Option<Stranger>
         ensures news { result ≡ (if self.old.is_news then self.old.stranger else None) }
         ensures told { (self.new.place ≡ self.old.place) × (self.new.is_news ≡ false) }

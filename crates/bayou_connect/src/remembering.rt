@@ -41,7 +41,7 @@ pub(crate) struct StateFile {
     ghost runs: { 0 < run },
 }
 
-// What a state file that can't be used is told as.
+// What a state file that can't be used is reported as.
 fn fault_of(fault: RememberFault, device: &StateDevice) -> ConnectFault
     ensures { result ≡ forgotten_as fault device.now.damage }
 {
@@ -59,7 +59,7 @@ fn fault_of(fault: RememberFault, device: &StateDevice) -> ConnectFault
     }
 }
 
-// What a session that wasn't kept is told as.
+// What a session that wasn't kept is reported as.
 fn fault_of_keeping(fault: KeepFault) -> ConnectFault
     ensures { result ≡ unkept_as fault }
 {
@@ -94,7 +94,7 @@ fn open_at<T: Files<File = File>>(
     }
 }
 
-// Keeps each of those that there are, one behind another.
+// Keeps each of those that there are, one after another.
 fn keep_each<D: Device>(
     alloc: Global,
     memory: &mut Memory<D>,

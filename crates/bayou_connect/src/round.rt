@@ -19,7 +19,7 @@ pub const ROUNDS_PER_SECOND: u64 = 1_000 / ROUND_MILLISECONDS;
 pub trait Ways<Q> {
     type Fault: Drop;
 
-    /// Whether asking the server of this number, from 0 on, may leave this and be told so.
+    /// Whether asking the server of this number, from 0 on, may leave this and get this answer.
     ghost asks: { Q → Self → ℕ → Self → Answer → Type 0 };
 
     /// Asks the server of this number.
@@ -40,7 +40,7 @@ pub(crate) fn may_go_on(is_read: bool, told: &Told) -> bool
     }
 }
 
-// What is told where no server after these serves it: the last refusal or lost reply, or that all were away.
+// What is reported where no server after these serves it: the last refusal or lost reply, or that all were away.
 fn newer(last: Told, told: Told) -> Told
     ensures { result ≡ after_refusal last told }
 {
@@ -51,7 +51,7 @@ fn newer(last: Told, told: Told) -> Told
 }
 
 /// Asks each of these servers once at the most, in this order, up to the first after which no other may be asked: what that told. Where there
-/// is none, the last refusal or lost reply is told, or that all were away.
+/// is none, the last refusal or lost reply is reported, or that all were away.
 pub fn first_served<Q, W: Ways<Q>>(
     ways: &mut W,
     what: &Q,
@@ -136,7 +136,7 @@ fn is_last(last: &[bool], at: usize) -> bool
     }
 }
 
-/// These places in their order, but those that are last behind all others.
+/// These places in their order, but those that are last after all others.
 pub fn but_last(alloc: Global, order: &[usize], last: &[bool]) -> Result<Vec<usize>, AllocError>
     ensures { IfOk result (λ found. found.items ≡ but_last last.now order.now) }
 {

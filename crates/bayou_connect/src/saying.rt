@@ -31,7 +31,7 @@ fn answer_of(session: SessionId, key: &Option<Key>, told: Told) -> Option<Answer
     }
 }
 
-/// The line of what an operation was told, of which the key is one if it is a read.
+/// The line of what an operation heard, with its key if it is a read.
 pub(crate) fn told_line(
     alloc: Global,
     servers: u8,

@@ -34,7 +34,7 @@ pub struct SeenRows {
     pub server: ServerId,
     /// What it held that told the last of them.
     pub vector: Vector,
-    /// Whether some of them were told by what held less.
+    /// Whether some of them came of a server that held less.
     pub is_mixed: bool,
     /// In the order of keys.
     pub rows: Vec<SeenRow>,
@@ -60,7 +60,7 @@ impl Desk {
         Ok(seen)
     }
 
-    // The rows whose keys begin so, of servers that are asked at once, and not again behind a rest; or why they weren't told.
+    // The rows whose keys begin so, of servers that are asked at once, and not again after a rest; or why they didn't come.
     fn rows_at_once<T: Files<File = File> + Sockets + Wait + Clock>(
         &mut self,
         rt: &T,

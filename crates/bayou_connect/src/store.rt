@@ -49,7 +49,7 @@ pub(crate) struct Store {
     pub(crate) greeter: Greeter,
     /// Which server a session asked last, by its place in the list.
     asked_last: usize,
-    /// Whether a Write was refused since a log is full, and that is still to be told.
+    /// Whether a Write was refused since a log is full, and that is still to be reported.
     is_full: bool,
     ghost one_each: { vec_len sessions ≡ NUMBER },
 }
@@ -243,8 +243,8 @@ impl Store {
         Ok(done.told)
     }
 
-    /// Has the session do this at a server, by its place in the list. A Write is kept before it is sent, and what was told before anybody
-    /// is told of it.
+    /// Has the session do this at a server, by its place in the list. A Write is kept before it is sent, and what the session learned before anybody
+    /// else learns of it.
     pub(crate) fn ask_at<T: Files<File = File> + Sockets + Clock>(
         &mut self,
         rt: &T,
@@ -288,7 +288,7 @@ impl Store {
         }
     }
 
-    /// Whether a Write was refused since a log is full, and that wasn't told yet. It counts as told from then on.
+    /// Whether a Write was refused since a log is full, and that wasn't reported yet. It counts as reported from then on.
     pub(crate) fn take_full(&mut self) -> bool
         ensures { (result ≡ self.old.is_full) × (self.new ≡ record self.old { is_full = false }) }
     {
@@ -369,7 +369,7 @@ impl Store {
         answered(told)
     }
 
-    /// Who answers in the place of the server of this place in the list, and where, if that wasn't told yet.
+    /// Who answers in the place of the server of this place in the list, and where, if that wasn't reported yet.
     pub(crate) fn news_at(&mut self, at: usize) -> Option<(Place, Stranger)>
         ensures news { IfSome result (λ news. IsSomeAnd (slice_get self.old.accesses.items at) (λ access. (access.is_news ≡ true) × (access.place ≡ news.0) × (access.stranger ≡ Some news.1))) }
         ensures same { (self.new.sessions ≡ self.old.sessions) × (self.new.state ≡ self.old.state) × (self.new.book ≡ self.old.book) }

@@ -9,9 +9,9 @@ pub enum Told {
     Away,
     /// A read was served.
     Seen(Seen),
-    /// Rows were told.
+    /// A server listed rows.
     Rows(Page),
-    /// It was told what became of a Write.
+    /// A server reported what became of a Write.
     Fate(Fate),
     /// A Write was accepted.
     Accepted(Accepted),

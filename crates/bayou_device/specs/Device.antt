@@ -1,7 +1,7 @@
 -- What the calls of a device do: this project's own model.
 use Rattle.std.specs.Prelude.{◌≡◌, ℕ, ◌+◌, List, ◌++◌, min}
 
--- the bytes are this front and something behind it
+-- the bytes are this front and something after it
 abbrev pub BeginsWith : List ℕ → List ℕ → Type 0
 BeginsWith front bytes = (rest : List ℕ) × (bytes ≡ front ++ rest)
 

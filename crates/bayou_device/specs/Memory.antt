@@ -39,7 +39,7 @@ cut_to left device = record device { bytes = take left device.bytes; synced = mi
 abbrev pub shortened : ℕ → Memory → Memory
 shortened count device = cut_to (length device.bytes - count) device
 
--- it crashed: behind what was synced stands this tail
+-- it crashed: after what was synced stands this tail
 abbrev pub crashed : List ℕ → Memory → Memory
 crashed tail device = record device { bytes = kept_bytes device ++ tail }
 

@@ -129,7 +129,7 @@ impl<G: Gate> MemoryDevice<G> {
         self.synced = self.synced.min(left);
     }
 
-    /// A crash: what was synced stays, and the tail stands behind it. It is no device call, and a fuse goes on waiting.
+    /// A crash: what was synced stays, and the tail stands after it. It is no device call, and a fuse goes on waiting.
     /// Where memory is refused, nothing changes.
     pub fn crash(&mut self, tail: &[u8]) -> Result<(), AllocError>
         ensures ok { OnOk result (self.new ≡ crashed tail.now self.old) }

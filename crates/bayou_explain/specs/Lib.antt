@@ -1,6 +1,9 @@
 pub mod Dumped
 pub mod Explained
 pub mod Explanation
+pub mod Json
 pub mod Located
+pub mod Misfit
 pub mod Refused
 pub mod Sentence
+pub mod Standing

@@ -1,20 +1,19 @@
 //! What is told of an audit, whole.
 ghost use Rattle.std.specs.Prelude.{◌≡◌, ◌++◌, ℕ, IfOk, List, string_bytes};
 ghost use Rattle.bayou_explain.specs.Explained.{breaches_of};
-ghost use Rattle.bayou_explain.specs.Explanation.{TellEach, TellsRefusal, audited_line, bad_dump_text, misfit_text};
+ghost use Rattle.bayou_judge.specs.History.{lent_lists};
+ghost use Rattle.bayou_explain.specs.Explanation.{TellEach, TellsDump, TellsRefusal, audited_line, bad_dump_text, misfit_lines};
 
 use crate::dumped::held_at;
-use crate::explained::explain;
+use crate::explained::{explain, held};
 use crate::line::Located;
+use crate::misfit::{Misfit, misfit_at, misfit_text};
 use crate::refused::explain_forged;
 use crate::telling::{explained_text, forged_text, line_text};
 use bayou_base::ServerId;
 use bayou_judge::{BadEvidence, Surveyed};
+use bayou_lang::RestingWrite;
 use std::alloc::{AllocError, Global};
-
-/// What is wrong with a Write that can't stand in a dump.
-const MISFIT: &str =
-    "  it doesn't follow from those before it, or a smaller server has another Write of its name (docs/AUDIT.md)\n";
 
 /// Each breach of the survey as it is told, one after another; nothing where there is none.
 pub fn explanation_text(
@@ -41,30 +40,76 @@ fn dump_title(alloc: Global, server: ServerId, place: usize) -> Result<String, A
     format!(in alloc; "the Write at place {place} of server {server}'s dump can't be there\n")
 }
 
-// Of the first Write at which the server's dump can't be true: its line.
-fn dump_text(
+// The line that a misfit names.
+fn other_text(
+    alloc: Global,
+    lines: &[Located<'_>],
+    misfit: Option<Misfit>,
+) -> Result<String, AllocError> {
+    match misfit {
+        Some(Misfit::Other { server, wid }) => {
+            line_text(alloc, "against", held(lines, server, wid))
+        }
+        _ => Ok(String::new(alloc)),
+    }
+}
+
+// Which condition the Write fails, if it fails one.
+fn reason_text(alloc: Global, misfit: Option<Misfit>) -> Result<String, AllocError>
+    ensures { IfOk result (λ text. string_bytes text ≡ misfit_lines misfit) }
+{
+    match misfit {
+        Some(misfit) => misfit_text(alloc, misfit),
+        None => Ok(String::new(alloc)),
+    }
+}
+
+// Of a Write that can't stand in the server's dump: its line, that of the misfit, and which condition it fails.
+fn dump_lines(
     alloc: Global,
     lines: &[Located<'_>],
     server: ServerId,
     place: usize,
+    misfit: Option<Misfit>,
 ) -> Result<String, AllocError>
-    ensures { IfOk result (λ text. (line : List ℕ) × (string_bytes text ≡ bad_dump_text server.index place ++ (line ++ misfit_text))) }
+    ensures { IfOk result (λ text. (shown : List ℕ) × (string_bytes text ≡ bad_dump_text server.index place ++ (shown ++ misfit_lines misfit))) }
 {
     let title = dump_title(alloc, server, place)?;
     let line = line_text(alloc, "the Write", held_at(lines, server, place))?;
-    format!(in alloc; "{title}{line}{MISFIT}")
+    let other = other_text(alloc, lines, misfit)?;
+    let shown = format!(in alloc; "{line}{other}")?;
+    let reason = reason_text(alloc, misfit)?;
+    format!(in alloc; "{title}{shown}{reason}")
 }
 
-/// Why the verdict is refused: which condition an entry fails, or where a dump can't be true. It is empty where the lines aren't those of the evidence.
+// Of the first Write at which the server's dump can't be true: its line, and which condition it fails.
+fn dump_text(
+    alloc: Global,
+    lines: &[Located<'_>],
+    count: u8,
+    dumps: &[&[RestingWrite]],
+    server: ServerId,
+    place: usize,
+) -> Result<String, AllocError>
+    ensures { IfOk result (λ text. TellsDump count (lent_lists dumps.now) server.index place (string_bytes text)) }
+{
+    let misfit = misfit_at(count, dumps, server, place);
+    dump_lines(alloc, lines, server, place, misfit)
+}
+
+/// Why the verdict on lines and on the dumps that they tell is refused: which condition an entry fails, or a Write of a dump. It is empty where the lines aren't those
+/// of the evidence.
 pub fn refusal_text(
     alloc: Global,
     lines: &[Located<'_>],
+    count: u8,
+    dumps: &[&[RestingWrite]],
     bad: BadEvidence,
 ) -> Result<String, AllocError>
-    ensures { IfOk result (λ text. TellsRefusal lines.now bad (string_bytes text)) }
+    ensures { IfOk result (λ text. TellsRefusal lines.now count (lent_lists dumps.now) bad (string_bytes text)) }
 {
     match bad {
-        BadEvidence::BadDump(server, place) => dump_text(alloc, lines, server, place),
+        BadEvidence::BadDump(server, place) => dump_text(alloc, lines, count, dumps, server, place),
         BadEvidence::Forged(number) => match explain_forged(lines, number) {
             Some(forged) => forged_text(alloc, number, &forged),
             None => Ok(String::new(alloc)),

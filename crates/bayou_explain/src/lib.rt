@@ -9,22 +9,33 @@
 //! Callers owe nothing. Where the survey isn't of this file, lines may be missing, and are `None`. It isn't promised that memory suffices.
 #![tactic(auto)]
 
+pub mod counted;
 pub mod dumped;
+pub mod each_server;
 pub mod explained;
 pub mod explanation;
+pub mod json;
 pub mod line;
 pub mod located;
+pub mod misfit;
 pub mod refused;
 mod sentence;
 pub mod telling;
 
+pub use counted::counts_of;
 pub use dumped::held_at;
+pub use each_server::standing_text;
 pub use explained::{Explained, Shown, explain};
 pub use explanation::{audited_text, explanation_text, refusal_text};
+pub use json::{
+    audited_object, explanation_objects, refusal_object, survey_objects, verdict_object,
+};
 pub use line::Located;
 pub use located::locate;
+pub use misfit::{Misfit, misfit_at, misfit_text};
 pub use refused::{Cause, Forged, explain_forged};
-pub use telling::{explained_text, forged_text};
+pub use sentence::{breach_sentence, breach_title, reason_line};
+pub use telling::{explained_text, forged_text, shown_line};
 
 #[cfg(test)]
 mod tests;

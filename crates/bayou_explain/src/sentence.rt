@@ -39,7 +39,7 @@ fn had_word(guarantee: Guarantee) -> &'static str
 }
 
 /// What is broken, in a line.
-pub(crate) fn title(alloc: Global, breach: &Breach) -> Result<String, AllocError>
+pub fn breach_title(alloc: Global, breach: &Breach) -> Result<String, AllocError>
     ensures { IfOk result (λ text. string_bytes text ≡ title_text breach.now) }
 {
     let session = breach.session.index;
@@ -77,7 +77,7 @@ fn later(alloc: Global, breach: &Breach) -> Result<String, AllocError>
 }
 
 /// What is wrong with the two operations, in a line.
-pub(crate) fn sentence(alloc: Global, breach: &Breach) -> Result<String, AllocError>
+pub fn breach_sentence(alloc: Global, breach: &Breach) -> Result<String, AllocError>
     ensures { IfOk result (λ text. string_bytes text ≡ sentence_text breach.now) }
 {
     let earlier = earlier(alloc, breach)?;
@@ -86,7 +86,7 @@ pub(crate) fn sentence(alloc: Global, breach: &Breach) -> Result<String, AllocEr
 }
 
 /// Which condition an entry fails, in a line.
-pub(crate) fn reason(cause: Option<Cause<'_>>) -> &'static str
+pub fn reason_line(cause: Option<Cause<'_>>) -> &'static str
     ensures { result.now ≡ reason_text cause.entry }
 {
     match cause {

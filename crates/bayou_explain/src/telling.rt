@@ -4,7 +4,7 @@ ghost use Rattle.bayou_explain.specs.Sentence.{entry_text, reason_text, sentence
 
 use crate::explained::{Explained, Shown};
 use crate::refused::{Cause, Forged};
-use crate::sentence::{reason, sentence, title};
+use crate::sentence::{breach_sentence, breach_title, reason_line};
 use std::alloc::{AllocError, Global};
 use std::str;
 
@@ -20,8 +20,8 @@ fn harmless(character: char) -> char {
     }
 }
 
-// The first characters of a line, and two dots where there are more.
-fn shown(alloc: Global, bytes: &[u8]) -> Result<String, AllocError> {
+/// The first characters of a line, as they are shown, and two dots where there are more; nothing where it is no text.
+pub fn shown_line(alloc: Global, bytes: &[u8]) -> Result<String, AllocError> {
     let mut text = String::new(alloc);
     let Ok(line) = str::from_utf8(bytes) else {
         return Ok(text);
@@ -45,7 +45,7 @@ pub(crate) fn line_text(
         return format!(in alloc; "  {what}: no line\n");
     };
     let number = (line.at as u64).saturating_add(1);
-    let text = shown(alloc, line.bytes)?;
+    let text = shown_line(alloc, line.bytes)?;
     format!(in alloc; "  {what}: line {number}  {text}\n")
 }
 
@@ -79,14 +79,14 @@ fn lines_text(alloc: Global, explained: &Explained<'_>) -> Result<String, AllocE
 pub fn explained_text(alloc: Global, explained: &Explained<'_>) -> Result<String, AllocError>
     ensures { IfOk result (λ text. (lines : List ℕ) × (string_bytes text ≡ title_text explained.now.breach ++ (lines ++ sentence_text explained.now.breach))) }
 {
-    let title = title(alloc, &explained.breach)?;
+    let title = breach_title(alloc, &explained.breach)?;
     let lines = lines_text(alloc, explained)?;
-    let sentence = sentence(alloc, &explained.breach)?;
+    let sentence = breach_sentence(alloc, &explained.breach)?;
     format!(in alloc; "{title}{lines}{sentence}")
 }
 
 // The line that the cause names.
-fn line_of<'a>(cause: Option<Cause<'a>>) -> Option<Shown<'a>> {
+pub(crate) fn line_of<'a>(cause: Option<Cause<'a>>) -> Option<Shown<'a>> {
     match cause? {
         Cause::Place(shown) | Cause::Asks(shown) | Cause::Again(shown) | Cause::Differs(shown) => {
             Some(shown)
@@ -120,6 +120,6 @@ pub fn forged_text(alloc: Global, number: usize, forged: &Forged<'_>) -> Result<
 {
     let title = entry_title(alloc, number)?;
     let lines = forged_lines(alloc, forged)?;
-    let reason = reason(forged.cause);
+    let reason = reason_line(forged.cause);
     format!(in alloc; "{title}{lines}{reason}")
 }

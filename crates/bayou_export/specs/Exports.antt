@@ -21,7 +21,7 @@ use Rattle.bayou_text.specs.Spelling.{count_json, form, op_json, vector_json}
 abbrev pub rows_with : (prefix : List ℕ) → Database → List Row
 rows_with prefix database = filter (λ row. begins_with prefix row.0) (finite.entries database)
 
--- The rows are those of the database that a server has which is started on a copy of these bytes, and what it holds is told with them.
+-- The rows are those of the database that a server has which is started on a copy of these bytes, and what it holds comes with them.
 pub record IsExportOf {D : Type 0} (d : Ghosts D) (whose : Whose) (prefix bytes : List ℕ) (export : Export) : Type 0 where
   pub server : ServerState D
   pub copy : IsOnCopy d whose.id.index whose.count bytes server

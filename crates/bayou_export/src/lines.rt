@@ -64,7 +64,7 @@ impl Printer for Puts {
     ghost ends = { λ puts row. line_ends (compact_text (spelled_put row)) };
 }
 
-/// How many counts of a vector are told, where so many servers are known of: as many, or as are needed for all that aren't 0.
+/// How many counts of a vector are given, where so many servers are known: as many, or as are needed for all that aren't 0.
 pub fn told_counts(vector: &Vector, least: u8) -> u8
     requires { least ≤ MOST_SERVERS }
     ensures within { (least ≤ result) × (result ≤ MOST_SERVERS) }

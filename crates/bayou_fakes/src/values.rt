@@ -8,7 +8,7 @@ pub fn tag(number: u32) -> Option<Tag> {
     Tag::new(SessionId::new(0)?, 1, number)
 }
 
-/// The tag of the place behind so many: a fresh one for a server that holds so many Writes, where those before it were given theirs so.
+/// The tag of the place after so many: a fresh one for a server that holds so many Writes, where those before it were given theirs so.
 pub fn tag_behind(count: usize) -> Option<Tag> {
     let count = u32::try_from(count).ok()?;
     tag(count.saturating_add(1))

@@ -3,7 +3,7 @@ use crate::items::{THREE, item};
 use std::alloc::Global;
 
 /// The tags of the first two places of the first session, in the first run; vectors that count nothing, the first server's first Write, and its
-/// first two; the second of these without its last byte; what stands behind a vector's first count, where no other server's Write is counted; the
+/// first two; the second of these without its last byte; what stands after a vector's first count, where no other server's Write is counted; the
 /// program that puts 1 at `a`; and vectors of eight counts, as journals of earlier versions have them.
 static WORDS: [(&str, &[&str]); 11] = [
     ("<tag-1>", &["000000000100000001"]),
@@ -33,7 +33,7 @@ const ZEROS: &str = "0000000000000000000000000000000000000000";
 /// The Items of the first server's first three Writes.
 static ITEMS: [&str; 3] = ["<item-1>", "<item-2>", "<item-3>"];
 
-/// The bytes that these say in hexadecimal, one behind the other.
+/// The bytes that these say in hexadecimal, one after the other.
 fn said_bytes(alloc: Global, said: &[&str]) -> Option<Vec<u8>> {
     let mut bytes = Vec::new(alloc);
     for part in said {
@@ -64,7 +64,7 @@ fn word_bytes(alloc: Global, word: &str) -> Option<Vec<u8>> {
     }
 }
 
-/// The bytes of the words, one behind the other.
+/// The bytes of the words, one after the other.
 pub fn bytes_of(alloc: Global, text: &str) -> Option<Vec<u8>> {
     let mut bytes = Vec::new(alloc);
     for word in text.split_whitespace() {

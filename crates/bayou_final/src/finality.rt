@@ -23,7 +23,7 @@ pub struct Finality {
 }
 
 impl Finality {
-    /// Of a store of so many servers, of which nothing was heard.
+    /// Of a store of so many servers, before anything is heard of them.
     pub fn new(count: u8) -> Self
         requires { count ≤ NUMBER }
         ensures { (result.count ≡ count) × (result.views ≡ replicate NUMBER None) × (result.written ≡ replicate NUMBER None) × (result.finals ≡ replicate NUMBER 0) }
@@ -85,7 +85,7 @@ impl Finality {
         self.views.hear(server, view);
     }
 
-    /// Whether all that a server holds is final, which told that it holds this, what is final among it: each server is known to hold it. Then it is known to
+    /// Whether all that a server holds is final, where it told that it holds this, with what is final: each server is known to hold it. Then it is known to
     /// be so. The views are chosen as in [`Finality::go_on`].
     pub fn settle(&mut self, vector: &Vector) -> bool
         ensures settled { result ≡ true → (self.new.finals ≡ joined self.old.finals vector.now)
@@ -106,7 +106,7 @@ impl Finality {
     /// what is final among it: how many of the Writes, from the first on, are final too. What they tell of their servers is heard first. Of each server that view
     /// counts by which it had made no more than the server holds: what it told itself, or else what its Writes tell.
     ///
-    /// None is where the Writes don't come in stamp order: a server that takes Writes while it sends others sends those behind, that belong before.
+    /// None is where the Writes don't come in stamp order: a server that takes Writes while it sends others sends those last that belong before.
     pub fn go_on(&mut self, vector: &Vector, writes: &[RestingWrite]) -> usize
         ensures within { result ≤ length writes.now }
         ensures heard { (self.new.written ≡ heard_by self.old.written writes.now) × (self.new.views ≡ self.old.views) × (self.new.count ≡ self.old.count) }

@@ -1,4 +1,4 @@
-//! How something stands that a person was told.
+//! How something stands that a person learned.
 ghost use Rattle.std.specs.Prelude.{◌≡◌};
 ghost use Rattle.bayou_final.specs.Standing.{standing_word};
 
@@ -9,7 +9,7 @@ pub enum Standing {
     Tentative,
     /// It stays.
     Final,
-    /// It isn't what was told before, and may change yet.
+    /// It isn't what was reported before, and may change yet.
     Changed,
 }
 

@@ -55,7 +55,7 @@ fn view_within(heard: Option<&Vector>, server: ServerId, vector: &Vector) -> Opt
     }
 }
 
-// What is known of a server of which this was heard, and now this view.
+// What is known of a server, by what was heard of it and now this view.
 fn joined_with(heard: &Option<Vector>, view: &Vector) -> Vector
     ensures { Some result ≡ beside heard.now view.now }
 {

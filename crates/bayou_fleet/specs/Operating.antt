@@ -1,5 +1,5 @@
--- What a session of a run is told of its operations (Terry et al. 1994; that a Write may be asked again is this project's own): of a Write by the
--- server that it names, of a Write asked again by the server that was asked, of a read by any, and of nothing below its need. Each may be told
+-- What a session of a run hears of its operations (Terry et al. 1994; that a Write may be asked again is this project's own): of a Write by the
+-- server that it names, of a Write asked again by the server that was asked, of a read by any, and of nothing below its need. Each may be reported
 -- as refused or lost, whatever the server did.
 use Rattle.std.specs.Prelude.{◌≡◌, ◌≢◌, ℕ, List, Option, None, Some, slice_get}
 use Rattle.bayou_answers.specs.declared.answer.Answer.{Answer}
@@ -41,7 +41,7 @@ abbrev pub AnswersRead : SessionId → Told → List ℕ → Answer → Type 0
 AnswersRead who told key (Read session asked seen) = (session ≡ who) × (asked ≡ key) × Dominates seen.vector (read_need told)
 AnswersRead who told key answer = IsUnserved who answer
 
--- A Write of the server that was asked for it before, as of a Write; or none. Where the session has nothing to ask again, it is told just that.
+-- A Write of the server that was asked for it before, as of a Write; or none. Where the session has nothing to ask again, it hears just that.
 abbrev pub AnswersAgain : SessionId → Told → Option Asked → Answer → Type 0
 AnswersAgain who told (Some asked) answer = AnswersWrite who told asked.server answer
 AnswersAgain who told None answer = answer ≡ NotAgain who

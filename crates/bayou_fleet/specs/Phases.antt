@@ -22,7 +22,7 @@ closing_said (closing.Reopen place) = reopen place.index
 closing_said (closing.Question question) = question_said question
 closing_said closing.Phase = phase
 
--- What these lists say, with what is still to come behind each, is what the lines of a phase say of each kind, in order: what opens sessions,
+-- What these lists say, with what is still to come after each, is what the lines of a phase say of each kind, in order: what opens sessions,
 -- the operations of each session, the pulls, and the rest.
 pub record AreArranged (openings : List Opening) (operations : List (Vec Operation)) (pulls : List Pull) (closings : List Closing) (coming lines : List Said) : Type 0 where
   pub openings_are : map opening_said openings ++ opens_of coming ≡ opens_of lines

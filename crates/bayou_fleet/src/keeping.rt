@@ -47,7 +47,7 @@ fn pulled<D: Device, L: Desks, T: Wait>(
     pull(rt, alloc, node, &mut CountedChannel::new(&stream, &stream))
 }
 
-// Does each order at the node, until it is told to do no more.
+// Does each order at the node, until an order ends it.
 fn do_orders<D: Device, L: Desks, T: Wait>(
     rt: &T,
     alloc: Global,
@@ -68,7 +68,7 @@ fn do_orders<D: Device, L: Desks, T: Wait>(
     }
 }
 
-// Closes each connection that comes to a server that couldn't go on listening, so that nobody waits for a reply, until it is told to stop.
+// Closes each connection that comes to a server that couldn't go on listening, so that nobody waits for a reply, until it is asked to stop.
 fn turn_away<T: Wait>(rt: &T, post: &Post<'_>) {
     for _ in rt.forever() {
         let came = post.listener.accept();
@@ -159,7 +159,7 @@ where
     )
 }
 
-// Keeps a server, with so many desks, until it is told to end.
+// Keeps a server, with so many desks, until it is asked to end.
 fn keep<D, L, T>(
     rt: &T,
     alloc: Global,

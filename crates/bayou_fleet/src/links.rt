@@ -15,7 +15,7 @@ pub(crate) fn reach<T: Sockets>(rt: &T, address: SocketAddr) -> Option<TcpStream
     let Ok(stream) = TcpStream::connect(rt, address) else {
         return None;
     };
-    // A socket that can't be told so sends small requests later.
+    // A socket that doesn't take this option sends small requests later.
     let _ = stream.set_nodelay(true);
     Some(stream)
 }

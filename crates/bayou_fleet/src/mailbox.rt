@@ -54,7 +54,7 @@ pub struct Mailbox {
     begun: Begun,
     mail: Mutex<Mail>,
     moved: Condvar,
-    /// Whoever asks has it until it was told.
+    /// Whoever asks has it until the answer came.
     turn: Mutex<()>,
 }
 
@@ -101,14 +101,14 @@ impl Mailbox {
         unreachable!()
     }
 
-    /// Leaves what is told.
+    /// Leaves an answer.
     pub(crate) fn tell<T: Wait>(&self, rt: &T, told: Told) {
         let mut mail = self.mail.lock(rt);
         mail.told = Some(told);
         self.moved.notify_all();
     }
 
-    // Takes what is told next, once it is there.
+    // Takes the next answer, once it is there.
     fn hear<T: Wait>(&self, rt: &T) -> Told {
         let mut mail = self.mail.lock(rt);
         for _ in rt.forever() {
@@ -120,7 +120,7 @@ impl Mailbox {
         unreachable!()
     }
 
-    // Leaves an order, and waits for what is told then.
+    // Leaves an order, and waits for its answer.
     fn ask<T: Wait>(&self, rt: &T, order: Order) -> Told {
         let _turn = self.turn.lock(rt);
         self.leave(rt, order);

@@ -32,7 +32,7 @@ pub enum Closing {
     Reopen(ServerId),
     /// Something is asked, which changes nothing.
     Question(Question),
-    /// The phase ends, of which nothing is told.
+    /// The phase ends, and nothing is reported.
     Phase,
 }
 
@@ -65,7 +65,7 @@ impl Phase {
         })
     }
 
-    // Puts a command behind those of its kind.
+    // Puts a command after those of its kind.
     fn put(&mut self, command: NetworkCommand) -> Result<(), AllocError>
         ensures { OnOk result ((coming lines : List Said) → AreArranged self.old.openings.items self.old.operations.items self.old.pulls.items self.old.closings.items (network_said command ∷ coming) lines
             → AreArranged self.new.openings.items self.new.operations.items self.new.pulls.items self.new.closings.items coming lines) }

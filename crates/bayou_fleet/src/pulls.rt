@@ -15,7 +15,7 @@ use std::alloc::{AllocError, Global};
 use std::net::SocketAddr;
 use std::sync::Wait;
 
-/// Has one server take from another, over a connection of its own. One that isn't reached is told as stopped.
+/// Has one server take from another, over a connection of its own. One that isn't reached is reported as stopped.
 fn pull_one<T: Sockets + Wait>(
     rt: &T,
     mailboxes: &[Mailbox],

@@ -152,7 +152,7 @@ where
     }
 }
 
-// Waits for a session, and puts its answers behind the others.
+// Waits for a session, and puts its answers after the others.
 fn end_one<K: Ledgers + Send + Sync, T: Threads>(
     rt: &T,
     going: Going<K>,
@@ -259,7 +259,7 @@ fn open_all<K: Ledgers, T: Sockets>(
 pub struct Together<K: Ledgers> {
     /// The sessions, in order.
     pub sessions: Vec<RunSession<K>>,
-    /// The answers to the operations of each session in order, by the sessions' numbers, and behind them those to the pulls in order.
+    /// The answers to the operations of each session in order, by the sessions' numbers, and after them those to the pulls in order.
     pub answers: Vec<Answer>,
 }
 

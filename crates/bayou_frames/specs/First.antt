@@ -17,7 +17,7 @@ BeginsWith read frame = IsFrame frame × ((behind : List ℕ) × (read ≡ spell
 abbrev pub StopsInTime : List ℕ → Type 0
 StopsInTime read = (before piece : List ℕ) × (read ≡ before ++ piece) × IsPartial before × (length piece ≤ READ_BYTES)
 
--- How a read of one frame ends that reads these bytes, and where this says whether the input has ended. What was read behind the
+-- How a read of one frame ends that reads these bytes, and where this says whether the input has ended. What was read after the
 -- frame is dropped.
 abbrev pub FrameRead : (read : List ℕ) → (is_end : Type 0) → Result Frame ChannelFault → Type 0
 FrameRead read is_end (Ok frame) = BeginsWith read frame

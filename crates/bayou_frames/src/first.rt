@@ -29,7 +29,7 @@ fn first_of(alloc: Global, frames: &mut Frames, piece: &[u8]) -> Result<Option<F
     }
 }
 
-/// Reads until the first frame is whole, and gives it. What came behind it in the same piece is dropped.
+/// Reads until the first frame is whole, and gives it. What came after it in the same piece is dropped.
 pub fn read_frame<R: Read, W>(
     alloc: Global,
     channel: &mut CountedChannel<R, W>,

@@ -65,7 +65,7 @@ pub fn read_piece<R: Read, W>(
     }
 }
 
-/// What a piece gave: the frames that are whole now, and whether what is behind them has a fault.
+/// What a piece gave: the frames that are whole now, and whether what comes after them has a fault.
 #[derive(Drop)]
 pub struct Came {
     pub frames: Vec<Frame>,
@@ -82,7 +82,7 @@ fn bad_at_once(alloc: Global) -> Came
     }
 }
 
-/// Feeds the piece where no fault came before, so that a fault is told with the frames before it.
+/// Feeds the piece where no fault came before, so that a fault is reported with the frames before it.
 pub fn feed_piece(alloc: Global, frames: &mut Frames, piece: &[u8]) -> Result<Came, ChannelFault>
     ensures comes { (held : List ℕ) → IsPartial held → frames.old ≡ Some held → IfOk result (λ came. Comes held piece.now came.frames.items came.is_bad frames.new) }
     ensures refused { IfErr result (λ fault. (fault ≡ OutOfMemory) × (frames.new ≡ frames.old)) }

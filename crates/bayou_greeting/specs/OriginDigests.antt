@@ -21,11 +21,11 @@ no_writes = replicate 32 0
 abbrev pub digest_of : List (List ℕ) → List ℕ
 digest_of writes = digest_behind no_writes writes
 
--- what is told of a digest: its first eight bytes, as a number
+-- what is reported of a digest: its first eight bytes, as a number
 abbrev pub short : List ℕ → ℕ
 short digest = from_be_bytes w64 (take 8 digest)
 
--- what is told behind each Write
+-- the short digest after each Write
 abbrev pub shorts_behind : List ℕ → List (List ℕ) → List ℕ
 shorts_behind before [] = []
 shorts_behind before (write ∷ writes) = short (next_digest before write) ∷ shorts_behind (next_digest before write) writes
@@ -35,7 +35,7 @@ pub record AreDigestsOf (digests : OriginDigests) (writes : List (List ℕ)) : T
   pub last : digests.last ≡ digest_of writes
   pub kept : digests.kept.items ≡ shorts_behind no_writes writes
 
--- two messages that aren't one, of whose digests the same is told
+-- two messages that aren't one, whose short digests are the same
 pub record Collision : Type 0 where
   pub one : List ℕ
   pub other : List ℕ

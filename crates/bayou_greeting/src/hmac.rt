@@ -18,7 +18,7 @@ pub const INNER_PAD: u8 = 0x36;
 /// The byte of the outer pad.
 pub const OUTER_PAD: u8 = 0x5c;
 
-// The key with zeros behind it, up to a block.
+// The key with zeros after it, up to a block.
 fn padded_block(key: &[u8]) -> [u8; BLOCK_BYTES]
     requires { length key.now ≤ BLOCK_BYTES }
     ensures { result ≡ padded_key key.now }

@@ -22,7 +22,7 @@ pub fn a_server_s_text_is_of_one_greeting()
         → server_text nonces id servers ≡ server_text others other_id other_servers → (nonces ≡ others) × (id ≡ other_id) × (servers ≡ other_servers) }
 {}
 
-/// So many Writes have one digest only where they are the same, or two messages are at hand that SHA-256 tells apart by none of the bytes told.
+/// So many Writes have one digest only where they are the same, or two messages are at hand that SHA-256 tells apart by none of the bytes sent.
 pub fn equal_digests_are_of_equal_writes()
     ensures { (writes others : List (List ℕ)) → length writes ≡ length others → short (digest_of writes) ≡ short (digest_of others)
         → (writes ≡ others) ⊎ Collision }

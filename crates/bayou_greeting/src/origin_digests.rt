@@ -5,7 +5,7 @@ use crate::hmac::DIGEST_BYTES;
 use sha2::{Digest, Sha256};
 use std::alloc::{AllocError, Global};
 
-/// The digest of no Write, as it is told.
+/// The digest of no Write, as it is sent.
 pub const NO_WRITES: u64 = 0;
 
 /// A digest for each count of an origin's Writes: that of its first so many, in their order, by their bytes as they travel without a tag.
@@ -75,7 +75,7 @@ impl OriginDigests {
         Some(self.kept[count - 1])
     }
 
-    /// Whether other Writes are held than those of whom this was told at the count. Where fewer are held, that isn't known.
+    /// Whether other Writes are held than those with this digest at the count. Where fewer are held, that isn't known.
     pub fn differs(&self, count: usize, told: u64) -> bool
         ensures { (writes : List (List ℕ)) → AreDigestsOf self.now writes → IsTrue result ↔ ((count ≤ length writes) × (short (digest_of (take count writes)) ≢ told)) }
     {

@@ -58,7 +58,7 @@ fn no_proof() -> Proof {
     Proof::new([0; PROOF_BYTES])
 }
 
-/// What the greetings spell, one behind another.
+/// What the greetings spell, one after another.
 fn text_of(rt: &impl Abort, alloc: Global, greetings: &[Greeting]) -> Vec<u8> {
     let mut text = Vec::new(alloc);
     for greeting in greetings {

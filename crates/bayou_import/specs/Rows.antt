@@ -26,7 +26,7 @@ text_said text = if nat_le (length text) MAX_TEXT_BYTES then Some (Text text) el
 abbrev pub value_said : Data → Option Value
 value_said d = option_map_or (λ n. Some (Num n)) (option_and_then as_i64 (as_number d)) (option_and_then text_said (as_str d))
 
--- ["put", key, value], behind its word
+-- ["put", key, value], after its word
 abbrev pub row_of_parts : List ℕ → List Data → Option Row
 row_of_parts word (key ∷ value ∷ []) =
     if bytes_eq word (codes "put") then option_and_then (λ name. option_map (λ what. (name, what)) (value_said value)) (key_said key) else None
@@ -37,7 +37,7 @@ row_of_parts word (one ∷ two ∷ three ∷ more) = None
 abbrev pub row_said : Data → Option Row
 row_said d = option_and_then (λ (parts : List ℕ × List Data). row_of_parts parts.0 parts.1) (worded d)
 
--- ["exported", name, counts, keys], behind its word: how many keys follow
+-- ["exported", name, counts, keys], after its word: how many keys follow
 abbrev pub keys_of_parts : List ℕ → List Data → Option ℕ
 keys_of_parts word (name ∷ counts ∷ keys ∷ []) = if bytes_eq word (codes "exported") then option_and_then as_u64 (as_number keys) else None
 keys_of_parts word [] = None
@@ -52,7 +52,7 @@ keys_said d = option_and_then (λ (parts : List ℕ × List Data). keys_of_parts
 abbrev pub SaysRow : (line : List ℕ) → Row → Type 0
 SaysRow line row = option_and_then row_said (read line) ≡ Some row
 
--- A line of the text is this, and that stands behind its line feed; the last may lack it.
+-- A line of the text is this, and that stands after its line feed; the last may lack it.
 abbrev pub SplitsLine : (text line behind : List ℕ) → Type 0
 SplitsLine text line behind = (text ≡ line ++ 10 ∷ behind) ⊎ ((text ≡ line) × (behind ≡ []))
 

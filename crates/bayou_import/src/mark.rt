@@ -65,7 +65,7 @@ fn text_of(alloc: Global, mark: &Mark, run: u32) -> Result<String, AllocError>
     format!(in alloc; "{start}{run}\n")
 }
 
-// The run that is said behind this start, if one is.
+// The run that is said after this start, if one is.
 fn run_behind(start: &str, text: &str) -> Option<u32>
     ensures { IfSome result (λ run. 0 < run) }
 {

@@ -70,7 +70,7 @@ fn number_on(alloc: Global, line: &str) -> Result<Option<u64>, AllocError>
     }
 }
 
-// The first line, and what stands behind its line feed; nothing does where it has none.
+// The first line, and what stands after its line feed; nothing does where it has none.
 fn first_line(text: &str) -> (&str, &str)
     ensures { SplitsLine text.now result.0.now result.1.now }
 {

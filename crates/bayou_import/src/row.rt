@@ -7,7 +7,7 @@ ghost use Rattle.bayou_import.specs.Rows.{key_said, keys_of_parts, keys_said, ro
 use bayou_base::{Key, Value};
 use serde_json::Value as Json;
 
-// The word that a list begins with, and what stands behind it.
+// The word that a list begins with, and what stands after it.
 fn headed(list: &[Json]) -> Option<(&str, &[Json])>
     ensures { option_map (λ parts. (parts.0.now, map view parts.1.now)) result ≡ headed (map view list.now) }
 {
@@ -17,7 +17,7 @@ fn headed(list: &[Json]) -> Option<(&str, &[Json])>
     Some((first.as_str()?, rest))
 }
 
-// The word that an array begins with, and what stands behind it.
+// The word that an array begins with, and what stands after it.
 #[tactic(auto, using(crate::proofs::Views::listed_view))]
 fn worded(json: &Json) -> Option<(&str, &[Json])>
     ensures { option_map (λ parts. (parts.0.now, map view parts.1.now)) result ≡ worded (view json.now) }
@@ -44,7 +44,7 @@ fn value_in(json: &Json) -> Option<Value>
     Value::text(text)
 }
 
-// The row that this says behind its word, if it says one.
+// The row that this says after its word, if it says one.
 fn row_of(word: &str, parts: &[Json]) -> Option<(Key, Value)>
     ensures { result ≡ row_of_parts word.now (map view parts.now) }
 {
@@ -67,7 +67,7 @@ pub fn row_in(json: &Json) -> Option<(Key, Value)>
     row_of(word, parts)
 }
 
-// How many keys this says behind its word, if it says that.
+// How many keys this says after its word, if it says that.
 fn keys_of(word: &str, parts: &[Json]) -> Option<u64>
     ensures { result ≡ keys_of_parts word.now (map view parts.now) }
 {

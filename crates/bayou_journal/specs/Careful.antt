@@ -16,7 +16,7 @@ pub record Ended : Type 0 where
 abbrev pub end_of : List ℕ → Ended
 end_of bytes = record { size = length bytes; tail = drop (length bytes - ENTRY_BYTES) bytes }
 
--- the bytes behind the first `len`, where all of them are kept
+-- the bytes after the first `len`, where all of them are kept
 abbrev pub behind : Ended → ℕ → Option (List ℕ)
 behind ended len =
     if nat_le (ended.size - len) (length ended.tail) then Some (drop (length ended.tail - (ended.size - len)) ended.tail) else None
@@ -26,12 +26,12 @@ abbrev pub IsLeft : (size : ℕ) (bytes : List ℕ) → Tear → Type 0
 IsLeft size bytes Unfinished = (size < HEADER_BYTES) ⊎ IsTear bytes Unfinished
 IsLeft size bytes Whole = IsTear bytes Whole
 
--- what is told of a cut behind the first `len` bytes
+-- what is reported of a cut after the first `len` bytes
 abbrev pub entry_of : Tear → (len count : ℕ) → Option DamagedEntry
 entry_of Unfinished len count = None
 entry_of Whole len count = Some (record { start = len; bytes = count })
 
--- a cut to `len` bytes takes what an append may have left that was cut off; where that is a whole entry, it is told
+-- a cut to `len` bytes takes what an append may have left that was cut off; where that is a whole entry, it is reported
 pub record IsCareful (read : Option Ended) (len : ℕ) (entry : Option DamagedEntry) : Type 0 where
   pub ended : Ended
   pub was_read : read ≡ Some ended
@@ -41,14 +41,14 @@ pub record IsCareful (read : Option Ended) (len : ℕ) (entry : Option DamagedEn
   pub torn : IsLeft ended.size bytes tear
   pub tells : entry ≡ entry_of tear len (length bytes)
 
--- What a cut would take that was refused is no such thing, and is told; or it isn't known what was read.
+-- What a cut would take that was refused is no such thing, and is reported; or it isn't known what was read.
 abbrev pub IsDamage : (read : Option Ended) (len : ℕ) (damage : Option Damage) → Type 0
 IsDamage None len damage = damage ≡ None
 IsDamage (Some ended) len damage =
     ((bytes : List ℕ) (tear : Tear) → behind ended len ≡ Some bytes → ¬ IsLeft ended.size bytes tear)
     × (damage ≡ Some (record { whole = len; behind = ended.size - len }))
 
--- what damage is told as
+-- what damage is reported as
 abbrev pub damage_text : Damage → List ℕ
 damage_text damage =
     codes "it is whole up to byte " ++ (decimal damage.whole ++ (codes ", and the " ++ (decimal damage.behind ++ codes " bytes behind that are damaged; nothing was changed")))

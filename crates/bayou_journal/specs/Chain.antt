@@ -24,7 +24,7 @@ abbrev pub AreBodies : List (List ℕ) → Type 0
 AreBodies [] = Unit {0}
 AreBodies (body ∷ bodies) = IsBody body × AreBodies bodies
 
--- a body behind its length, in two bytes, the high one first
+-- a body after its length, in two bytes, the high one first
 abbrev pub sized : List ℕ → List ℕ
 sized body = to_be_bytes w16 (length body) ++ body
 
@@ -32,11 +32,11 @@ sized body = to_be_bytes w16 (length body) ++ body
 abbrev pub link : List ℕ → List ℕ → List ℕ
 link before body = sha256 (before ++ sized body)
 
--- an entry behind the digest before it
+-- an entry after the digest before it
 abbrev pub entry : List ℕ → List ℕ → List ℕ
 entry before body = sized body ++ link before body
 
--- entries of these bodies, one behind the other
+-- entries of these bodies, one after the other
 abbrev pub entries : List ℕ → List (List ℕ) → List ℕ
 entries before [] = []
 entries before (body ∷ bodies) = entry before body ++ entries (link before body) bodies
@@ -51,11 +51,11 @@ abbrev pub last_link : List ℕ → List (List ℕ) → List ℕ
 last_link before [] = before
 last_link before (body ∷ bodies) = last_link (link before body) bodies
 
--- the digest that the first entry stands behind
+-- the digest that the first entry stands after
 abbrev pub first_link : ℕ → ℕ → List ℕ
 first_link version server = sha256 (header version server)
 
--- the digest that the next entry stands behind
+-- the digest that the next entry stands after
 abbrev pub chain_end : ℕ → ℕ → List (List ℕ) → List ℕ
 chain_end version server bodies = last_link (first_link version server) bodies
 
@@ -63,7 +63,7 @@ chain_end version server bodies = last_link (first_link version server) bodies
 abbrev pub journal : ℕ → ℕ → List (List ℕ) → List ℕ
 journal version server bodies = header version server ++ entries (first_link version server) bodies
 
--- no entry of any body stands there, behind that digest
+-- no entry of any body stands there, after that digest
 abbrev pub NoEntry : List ℕ → List ℕ → Type 0
 NoEntry before bytes = (body : List ℕ) → IsBody body → BeginsWith (entry before body) bytes → ⊥
 

@@ -18,11 +18,11 @@ IsHonest bodies (body ∷ doubts) found = (found ≡ bodies) ⊎ IsHonest (bodie
 abbrev pub added_body : List ℕ → Body
 added_body bytes = body_in NEWEST_VERSION bytes
 
--- the journal of these bodies, and behind it the first so many bytes of the entry of one more
+-- the journal of these bodies, and after it the first so many bytes of the entry of one more
 abbrev pub torn : ℕ → ℕ → List (List ℕ) → List ℕ → ℕ → List ℕ
 torn version server bodies body count = journal version server bodies ++ take count (entry (chain_end version server bodies) body)
 
--- The bytes are the server's journal, which tells these bodies, is at the newest version, and whose next entry stands behind that
+-- The bytes are the server's journal, which tells these bodies, is at the newest version, and whose next entry stands after that
 -- digest.
 pub record HasJournal (server : ℕ) (bodies : List Body) (last bytes : List ℕ) : Type 0 where
   pub records : Records
@@ -66,12 +66,12 @@ abbrev pub KeepsBodies : {D : Type 0} → Ghosts D → (server : ℕ) → (bodie
 KeepsBodies d server bodies device = (bodies ≡ []) ⊎ BeginsWithBodies server bodies (d.kept device)
 
 -- The device is honest for the bodies that were added: what is kept begins with them, if there are any; and a read gives them, and
--- behind them no other than a front of those in doubt.
+-- after them no other than a front of those in doubt.
 pub record IsHonestDevice {D : Type 0} (d : Ghosts D) (server : ℕ) (bodies : List Body) (doubts : List Body) (device : D) : Type 0 where
   pub kept : KeepsBodies d server bodies device
   pub recoverable : IsRecoverable server bodies doubts (d.content device)
 
--- the entries that go on in the bytes behind these records, up to where none stands, tell a front of those in doubt
+-- the entries that go on in the bytes after these records, up to where none stands, tell a front of those in doubt
 pub record GoesOnHonestly (server : ℕ) (records : Records) (doubts : List Body) (bytes : List ℕ) : Type 0 where
   pub more : List (List ℕ)
   pub rest : List ℕ
@@ -80,7 +80,7 @@ pub record GoesOnHonestly (server : ℕ) (records : Records) (doubts : List Body
   pub longest : NoEntry (last_link (end_of server records) more) rest
   pub honest : IsHonest [] doubts (told (version_of records) more)
 
--- The device crashed, maybe as bodies were being added: it keeps what it kept, and behind that stands any tail. In what is kept behind the
+-- The device crashed, maybe as bodies were being added: it keeps what it kept, and after that stands any tail. In what is kept after the
 -- bodies that were added, and the tail, nothing goes on from them but a front of those in doubt; and where the header wasn't kept yet, no more
 -- than the header stands there.
 pub record HasCrashed {D : Type 0} (d : Ghosts D) (server : ℕ) (bodies : List Body) (doubts : List Body) (old new : D) : Type 0 where

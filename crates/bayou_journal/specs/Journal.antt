@@ -1,7 +1,7 @@
 -- A journal as its callers see it: this project's own.
 use Rattle.std.specs.Prelude.{ℕ, List, Bool}
 
--- the device; whose journal it is; the digest that the next entry stands behind; and whether a device call failed since it
+-- the device; whose journal it is; the digest that the next entry stands after; and whether a device call failed since it
 -- was opened last
 pub record JournalState (D : Type 0) : Type 0 where
   pub device : D

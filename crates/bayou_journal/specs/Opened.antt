@@ -3,7 +3,7 @@ use Rattle.std.specs.Prelude.{ℕ, ◌≤◌, ◌-◌, List, take, drop}
 use Rattle.bayou_journal.specs.Versions.{Body, body_in}
 use Rattle.bayou_journal.specs.declared.opened.Place.{Place}
 
--- the bodies that the chain tells, and how many bytes behind it were cut
+-- the bodies that the chain tells, and how many bytes after it were cut
 pub record Found : Type 0 where
   pub bodies : List Body
   pub dropped : ℕ

@@ -44,7 +44,7 @@ pub record IsOldJournal (server : ℕ) (bytes : List ℕ) (records : Records) (d
 abbrev pub Finds : ℕ → List ℕ → Records → ℕ → Type 0
 Finds server bytes records dropped = IsNewJournal bytes records dropped ⊎ IsOldJournal server bytes records dropped
 
--- what an opening adds behind the entries found: the mark of the newest version, where the chain hasn't got it
+-- what an opening adds after the entries found: the mark of the newest version, where the chain hasn't got it
 abbrev pub mark_for : ℕ → Records → List ℕ
 mark_for server records = if version_of records == NEWEST_VERSION then [] else entry (end_of server records) newest_mark
 
@@ -57,7 +57,7 @@ abbrev pub FailsToAdd : (List ℕ → List ℕ → List ℕ → Type 0) → List
 FailsToAdd may_leave piece before after = may_leave piece before after ⊎ may_leave [] (before ++ piece) after
 
 -- what an opening may leave of the bytes where a device call fails: the read or the cut; the header's append, in a new
--- journal; the mark's, behind an older one; or the sync
+-- journal; the mark's, after an older one; or the sync
 abbrev pub FailsToOpen : (List ℕ → List ℕ → List ℕ → Type 0) → ℕ → List ℕ → List ℕ → Type 0
 FailsToOpen may_leave server before after =
     may_leave [] before after
@@ -71,7 +71,7 @@ pub record Unchanged {D : Type 0} (d : Ghosts D) (old new : D) : Type 0 where
   pub counts : d.failures new ≡ d.failures old
 
 -- What an opening that succeeds finds, and what it leaves: the server's header and the entries found, raised to the newest version,
--- all of it synced; and the digest that the next entry stands behind.
+-- all of it synced; and the digest that the next entry stands after.
 pub record HasOpened {D : Type 0} (d : Ghosts D) (server : ℕ) (old new : D) (found : Found) (last : List ℕ) : Type 0 where
   pub records : Records
   pub known : IsVersionOf server records.version
@@ -92,7 +92,7 @@ HasRefused d server old new OtherServer = Unchanged d old new × (d.is_modelled 
 HasRefused d server old new OutOfMemory = Unchanged d old new
 
 -- How many device calls an opening makes at the most: the read, the cut, the append of the header or of the mark, and the sync. There
--- is no cut where nothing stands behind the chain, no append where the header is there and the chain is at the newest version, and
+-- is no cut where nothing stands after the chain, no append where the header is there and the chain is at the newest version, and
 -- nothing but the read where the bytes are refused.
 pub record OpensInCalls {D : Type 0} (d : Ghosts D) (server : ℕ) (old new : D) : Type 0 where
   pub most : d.leads_to 4 old new

@@ -1,4 +1,4 @@
--- What an append of an entry, or of several, may leave behind whole entries where it is cut off, each append being synced before the next: this
+-- What an append of an entry, or of several, may leave after whole entries where it is cut off, each append being synced before the next: this
 -- project's own.
 use Rattle.std.specs.Prelude.{◌≡◌, ◌⊎◌, ℕ, ◌+◌, ◌*◌, ◌<◌, ◌≤◌, List, ◌++◌, All, get_or, length}
 use Rattle.bayou_base.specs.declared.limits.TheConstants.{MAX_BODY_BYTES}
@@ -15,7 +15,7 @@ said_length bytes = get_or bytes 0 0 * 256 + get_or bytes 1 0
 abbrev pub said_entry : List ℕ → ℕ
 said_entry bytes = LENGTH_BYTES + said_length bytes + DIGEST_BYTES
 
--- no entry stands anywhere in the bytes, behind the digest's bytes before it
+-- no entry stands anywhere in the bytes, after the digest's bytes before it
 abbrev pub HoldsNoEntry : List ℕ → Type 0
 HoldsNoEntry bytes = (front before rest : List ℕ) → bytes ≡ front ++ (before ++ rest) → length before ≡ DIGEST_BYTES → NoEntry before rest
 

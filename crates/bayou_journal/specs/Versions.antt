@@ -27,12 +27,12 @@ pub record Body : Type 0 where
 abbrev pub body_in : ℕ → List ℕ → Body
 body_in version bytes = record { version = version; bytes = bytes }
 
--- A header's version, and the bodies of the entries behind it, marks too.
+-- A header's version, and the bodies of the entries after it, marks too.
 pub record Records : Type 0 where
   pub version : ℕ
   pub bodies : List (List ℕ)
 
--- the version that a chain has behind these bodies
+-- the version that a chain has after these bodies
 abbrev pub version_behind : ℕ → List (List ℕ) → ℕ
 version_behind version [] = version
 version_behind version (body ∷ bodies) = version_behind (unwrap_or (marked version body) version) bodies
@@ -49,7 +49,7 @@ bodies_in records = told records.version records.bodies
 abbrev pub version_of : Records → ℕ
 version_of records = version_behind records.version records.bodies
 
--- the server's journal with these records, and the digest that the next entry stands behind
+-- the server's journal with these records, and the digest that the next entry stands after
 abbrev pub journal_of : ℕ → Records → List ℕ
 journal_of server records = journal records.version server records.bodies
 
@@ -60,7 +60,7 @@ end_of server records = chain_end records.version server records.bodies
 abbrev pub newest_mark : List ℕ
 newest_mark = NEWEST_VERSION ∷ []
 
--- the same records, and behind them the mark of the newest version where they haven't got it
+-- the same records, and after them the mark of the newest version where they haven't got it
 abbrev pub raised : Records → Records
 raised records =
     if version_of records == NEWEST_VERSION then records

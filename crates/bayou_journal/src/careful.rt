@@ -17,7 +17,7 @@ use std::marker::Model;
 pub struct Damage {
     /// How many bytes at the front were to stay.
     pub whole: usize,
-    /// How many bytes behind them were to go.
+    /// How many bytes after them were to go.
     pub behind: usize,
 }
 
@@ -87,7 +87,7 @@ impl Ending {
         })
     }
 
-    // What the bytes behind so many at the front are, where an append may have left them that was cut off.
+    // What the bytes after so many at the front are, where an append may have left them that was cut off.
     #[tactic(auto, using(crate::proofs::Tails::none_left))]
     fn tear_behind(&self, len: usize) -> Option<Tear>
         ensures some { IfSome result (λ tear. ForSome (behind_of self.now len) (λ bytes. IsLeft self.now.size bytes tear × (length bytes ≡ self.now.size - len)) × (self.now.size - len ≤ length self.now.tail)) }
@@ -103,7 +103,7 @@ impl Ending {
     }
 }
 
-// What is told of a cut behind so many bytes which took so many.
+// What is reported of a cut after so many bytes which took so many.
 fn entry_of_tear(tear: Tear, len: usize, count: usize) -> Option<DamagedEntry>
     ensures { result ≡ entry_of tear len count }
 {
@@ -118,7 +118,7 @@ fn entry_of_tear(tear: Tear, len: usize, count: usize) -> Option<DamagedEntry>
 
 /// A device whose cuts take no more than one entry that was torn. Where each append is synced before the next one, a failed or lost call that
 /// leaves a front of what it was to add, one entry or several, tears no more than one of them: what is more is damage, and not for a cut to
-/// mend. A cut of more is refused, changes nothing, and counts as a failure; so is one that isn't made right behind a read.
+/// mend. A cut of more is refused, changes nothing, and counts as a failure; so is one that isn't made right after a read.
 #[derive(Drop)]
 pub struct CarefulDevice<D: Device> {
     device: D,
@@ -196,7 +196,7 @@ impl<D: Device> Device for CarefulDevice<D> {
         ensures calls { D.leads_to 1 self.old.device self.new.device }
         // It fails where the device does.
         ensures fails { IsErrOf result ReadFault.Failed → Rose (D.failures self.old.device) (D.failures self.new.device) }
-        // From then on the end is known, and what was told of an earlier cut is no more.
+        // From then on the end is known, and what was reported of an earlier cut is no more.
         ensures read { IfOk result (λ bytes. self.new.read ≡ Some (end_of bytes.items)) }
         ensures untold { (self.new.damage ≡ None) × (self.new.entry ≡ None) }
     {
@@ -274,10 +274,10 @@ impl<D: Device> Device for CarefulDevice<D> {
         ensures counts { OnOk result (self.new.failures ≡ self.old.failures) }
         ensures rose { OnErr result (Rose self.old.failures self.new.failures) }
         ensures calls { D.leads_to 1 self.old.device self.new.device }
-        // What goes is what an append may have left that was cut off, and is told where it is a whole entry.
+        // What goes is what an append may have left that was cut off, and is reported where it is a whole entry.
         ensures careful { OnOk result (IsCareful self.old.read len self.new.entry) }
         ensures torn { D.is_modelled → OnOk result ((tear : Tear) × IsLeft (length (D.content self.old.device)) (drop len (D.content self.old.device)) tear) }
-        // It fails where the device does, and where more would go: then nothing changes, and the damage is told.
+        // It fails where the device does, and where more would go: then nothing changes, and the damage is reported.
         ensures refused { OnErr result (Rose (D.failures self.old.device) (D.failures self.new.device) ⊎ ((self.new.device ≡ self.old.device) × IsDamage self.old.read len self.new.damage)) }
         ensures read { self.new.read ≡ None }
     {

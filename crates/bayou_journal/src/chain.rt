@@ -21,7 +21,7 @@ use std::alloc::{AllocError, Global};
 // What stands at the front of some bytes.
 #[derive(Clone, Copy)]
 pub enum Head {
-    // The front of a header, in some version, and nothing behind it.
+    // The front of a header, in some version, and nothing after it.
     New,
     // The server's own header, in this version.
     Own(u8),
@@ -31,7 +31,7 @@ pub enum Head {
     Foreign,
 }
 
-// The entry at the front of some bytes, and what stands behind it.
+// The entry at the front of some bytes, and what stands after it.
 #[derive(Drop)]
 pub struct Entry<'a> {
     pub body: &'a [u8],
@@ -40,7 +40,7 @@ pub struct Entry<'a> {
 }
 
 // The chain that some bytes hold, as it was read: where the bodies lie that it tells, the version and the digest that it has
-// behind its last entry, and where it ends (0 where not even a header is there).
+// after its last entry, and where it ends (0 where not even a header is there).
 #[derive(Drop)]
 pub struct ReadChain {
     pub places: Vec<Place>,
@@ -56,7 +56,7 @@ pub fn is_same(found: &[u8], wanted: &[u8]) -> bool
     found == wanted
 }
 
-// The entry at the front of the bytes, if one stands there behind that digest.
+// The entry at the front of the bytes, if one stands there after that digest.
 pub fn first_entry<'a>(before: &[u8; DIGEST_BYTES], bytes: &'a [u8]) -> Option<Entry<'a>>
     ensures body { IfSome result (λ first. IsBody first.body.now) }
     ensures digest { IfSome result (λ first. first.digest ≡ Chain.link before.now first.body.now) }
@@ -79,7 +79,7 @@ pub fn first_entry<'a>(before: &[u8; DIGEST_BYTES], bytes: &'a [u8]) -> Option<E
     Some(Entry { body, digest, rest })
 }
 
-// The digest that a server's first entry stands behind, in a version of the format.
+// The digest that a server's first entry stands after, in a version of the format.
 pub fn first_link_of(version: u8, server: ServerId) -> [u8; DIGEST_BYTES]
     ensures { result ≡ Chain.first_link version server.index }
 {

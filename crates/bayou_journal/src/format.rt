@@ -13,7 +13,7 @@ pub const MAGIC: [u8; 8] = *b"BAYOUJNL";
 /// The oldest version of the format that is read: entries of plain bodies.
 pub const FIRST_VERSION: u8 = 1;
 
-/// The version of new journals, and the one that bodies are added in. A journal of an earlier one is raised to it in place, behind a
+/// The version of new journals, and the one that bodies are added in. A journal of an earlier one is raised to it in place, after a
 /// mark.
 pub const NEWEST_VERSION: u8 = 3;
 
@@ -32,7 +32,7 @@ pub const HEADER_BYTES: usize = NAME_BYTES + 1;
 /// How many bytes an entry's length has, before its body.
 pub const LENGTH_BYTES: usize = 2;
 
-/// How many bytes a digest of SHA-256 has, behind the body.
+/// How many bytes a digest of SHA-256 has, after the body.
 pub const DIGEST_BYTES: usize = 32;
 
 /// How many bytes an entry has at the most.
@@ -109,7 +109,7 @@ fn push_entry(bytes: &mut Vec<u8>, body: &[u8], digest: &[u8; DIGEST_BYTES])
     put(bytes, digest.as_slice());
 }
 
-// Writes the entries of the bodies, one behind the other, in the place of what the bytes were, and gives the digest of the last. It takes
+// Writes the entries of the bodies, one after the other, in the place of what the bytes were, and gives the digest of the last. It takes
 // no memory.
 pub(crate) fn write_entries(
     bytes: &mut Vec<u8>,

@@ -42,8 +42,8 @@ impl<D> Model for Journal<D> {
 
 impl<D: Device> Journal<D> {
     /// Opens the server's journal that the device has, or begins it where the device has nothing but the front of a header.
-    /// A journal of an earlier version is raised to the newest, behind a mark. Device calls: the read; the cut, if something
-    /// stands behind the chain; the append of the header, if it isn't there, or of the mark, if the chain is of an earlier
+    /// A journal of an earlier version is raised to the newest, after a mark. Device calls: the read; the cut, if something
+    /// stands after the chain; the append of the header, if it isn't there, or of the mark, if the chain is of an earlier
     /// version; the sync. A refusal hands the device back.
     pub fn open(
         alloc: Global,
@@ -83,7 +83,7 @@ impl<D: Device> Journal<D> {
         }
     }
 
-    /// Adds an entry behind what the device holds, and syncs it. Device calls: the append, the sync. Where one of them fails
+    /// Adds an entry after what the device holds, and syncs it. Device calls: the append, the sync. Where one of them fails
     /// the journal is down. It takes no memory of its own.
     pub fn append(&mut self, body: &[u8]) -> Result<(), AppendFault>
         requires { IsBody body.now }
@@ -116,7 +116,7 @@ impl<D: Device> Journal<D> {
         }
     }
 
-    /// Adds the entries of the bodies behind what the device holds, in their order, as one piece, and syncs them together. They have no
+    /// Adds the entries of the bodies after what the device holds, in their order, as one piece, and syncs them together. They have no
     /// more bytes than the longest entry may have. Device calls: the append, the sync. Where one of them fails the journal is down, and
     /// an opening finds a front of the bodies: of a front of the piece no more than one entry is torn. It takes no memory of its own.
     pub fn append_all(&mut self, bodies: &[Vec<u8>]) -> Result<(), AppendFault>

@@ -34,7 +34,7 @@ pub fn what_is_found_is_one()
     ensures { (server : ℕ) (bytes : List ℕ) (records others : Records) (dropped more : ℕ) → Finds server bytes records dropped → Finds server bytes others more → (records ≡ others) × (dropped ≡ more) }
 {}
 
-/// What an opening tells is one, and the digest that the next entry stands behind then; nothing is told of a device with nothing.
+/// What an opening tells is one, and the digest that the next entry stands after then; nothing is reported of a device with nothing.
 pub fn what_is_opened_is_one<D: Device>()
     ensures one { (server : ℕ) (old new next : D) (found others : Found) (last end : List ℕ) → D.is_modelled
         → HasOpened D.Device server old new found last → HasOpened D.Device server old next others end → (found ≡ others) × (last ≡ end) }
@@ -55,7 +55,7 @@ pub fn a_chain_is_a_front_of_the_longest()
         → IsLongestChain version server bytes longest rest → (more : List (List ℕ)) × (longest ≡ bodies ++ more) }
 {}
 
-/// An opening of a torn journal is honest: it finds the bodies before the tear, and the one behind them exactly where its
+/// An opening of a torn journal is honest: it finds the bodies before the tear, and the one after them exactly where its
 /// entry is whole.
 pub fn a_torn_journal_opens_honestly()
     ensures part { (version server : ℕ) (bodies : List (List ℕ)) (body : List ℕ) (count : ℕ) → AreBodies bodies → IsBody body → count < length (entry (chain_end version server bodies) body)
@@ -137,7 +137,7 @@ pub fn an_append_of_several_leaves_an_honest_device<D: Device>()
     ensures each { (bodies front behind : List Body) → IsHonest bodies (front ++ behind) (bodies ++ front) }
 {}
 
-/// Whatever a failed call or a crash leaves behind what is kept: an opening finds each body that is kept, before all others,
+/// Whatever a failed call or a crash leaves after what is kept: an opening finds each body that is kept, before all others,
 /// and is refused for a device call or for memory alone.
 pub fn what_is_kept_is_found<D: Device>()
     ensures opened { (server : ℕ) (bodies : List Body) (old new : D) (found : Found) (last : List ℕ) → D.is_modelled
@@ -147,7 +147,7 @@ pub fn what_is_kept_is_found<D: Device>()
     ensures again { (server : ℕ) (bodies : List Body) (before after : List ℕ) → BeginsWithBodies server bodies before → KeepsChains before after → BeginsWithBodies server bodies after }
 {}
 
-/// A device that keeps a journal is honest by what stands behind that, as after a crash: where nothing goes on from it but a front of those in
+/// A device that keeps a journal is honest by what stands after that, as after a crash: where nothing goes on from it but a front of those in
 /// doubt, as in a front of their entries; or where that entry is kept too, and no other goes on from it. Nothing else of a device
 /// decides whether it is.
 pub fn what_stands_behind_the_kept_decides<D: Device>()

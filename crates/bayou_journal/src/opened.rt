@@ -10,7 +10,7 @@ pub struct Place {
     pub version: u8,
 }
 
-/// What an opening found: the bodies of the longest chain, in order, and how many bytes behind it were cut. It holds the
+/// What an opening found: the bodies of the longest chain, in order, and how many bytes after it were cut. It holds the
 /// bytes that were read, once.
 #[derive(Drop)]
 pub struct Opened {
@@ -72,7 +72,7 @@ impl Opened {
         self.places[index].version
     }
 
-    /// How many bytes were cut behind the chain.
+    /// How many bytes were cut after the chain.
     pub fn dropped(&self) -> usize
         ensures { result ≡ self.now.dropped }
     {

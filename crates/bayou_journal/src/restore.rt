@@ -14,7 +14,7 @@ use bayou_base::ServerId;
 use bayou_device::{Device, Failed};
 use std::alloc::Global;
 
-// An opened chain: what it holds, and the digest that the next entry stands behind.
+// An opened chain: what it holds, and the digest that the next entry stands after.
 #[derive(Drop)]
 pub struct Restored {
     pub opened: Opened,
@@ -59,7 +59,7 @@ pub fn drop_tail<D: Device>(device: &mut D, total: usize, end: usize) -> Result<
 }
 
 // Writes what the chain lacks in the place of what the piece was: the header, where nothing is left; the mark of the newest
-// version, where the chain hasn't got it; or nothing. It gives the digest that the next entry stands behind then.
+// version, where the chain hasn't got it; or nothing. It gives the digest that the next entry stands after then.
 fn write_missing(piece: &mut Vec<u8>, server: ServerId, chain: &ReadChain) -> [u8; DIGEST_BYTES]
     requires room { ENTRY_BYTES ≤ vec_capacity piece.old }
     ensures items { piece.new.items ≡ missing server.index chain.now.version chain.now.last chain.now.end }
@@ -80,7 +80,7 @@ fn write_missing(piece: &mut Vec<u8>, server: ServerId, chain: &ReadChain) -> [u
     chain.last
 }
 
-// Reads the journal, cuts what stands behind its longest chain, adds the header where it isn't there, or the mark behind an
+// Reads the journal, cuts what stands after its longest chain, adds the header where it isn't there, or the mark after an
 // older chain, and syncs. The piece is room for what is added.
 pub fn restore<D: Device>(
     alloc: Global,

@@ -23,7 +23,7 @@ fn are_zeros(bytes: &[u8]) -> bool
     bytes.iter().all(|byte| *byte == 0)
 }
 
-// Whether an entry stands anywhere in the bytes, behind the digest's bytes before it.
+// Whether an entry stands anywhere in the bytes, after the digest's bytes before it.
 fn holds_entry(bytes: &[u8]) -> bool
     ensures none { result ≡ false → HoldsNoEntry bytes.now }
     ensures some { result ≡ true → ¬ HoldsNoEntry bytes.now }
@@ -38,7 +38,7 @@ fn holds_entry(bytes: &[u8]) -> bool
     false
 }
 
-// What the bytes behind a chain are, where an append that was cut off may have left them: one entry at the most, by its own length.
+// What the bytes after a chain are, where an append that was cut off may have left them: one entry at the most, by its own length.
 pub(crate) fn tear_of(bytes: &[u8]) -> Option<Tear>
     ensures some { IfSome result (IsTear bytes.now) }
     ensures none { IfNone result ((tear : Tear) → ¬ IsTear bytes.now tear) }

@@ -35,7 +35,7 @@ pub record IsLeastBreach (history : History) (entries : List Entry) (breach : Br
   pub asked : IsAskedFor entries breach
   pub least : (other : Breach) → IsBreach history other → IsAskedFor entries other → is_less (key_of other) (key_of breach) ≡ false
 
--- why they stand for none: a bad dump is told before a forged entry
+-- why they stand for none: a bad dump is reported before a forged entry
 abbrev pub Refuses : ℕ → List Entry → List (List Write) → BadEvidence → Type 0
 Refuses count entries dumps (BadDump server at) = IsFirstBad count dumps server.index at
 Refuses count entries dumps (Forged at) = AreGood count dumps × IsFirstForged count dumps entries at

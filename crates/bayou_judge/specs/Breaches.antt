@@ -1,4 +1,4 @@
--- Pairs of operations that violate a guarantee (Terry et al. 1994), and the order in which they are told, which is this
+-- Pairs of operations that violate a guarantee (Terry et al. 1994), and the order in which they are reported, which is this
 -- project's own.
 use Rattle.std.specs.Prelude.{◌≡◌, ℕ, ◌<◌, Bool, false, ◌&&◌, ◌||◌, ◌==◌, nat_lt, List, [], ◌∷◌, Contains}
 use Rattle.bayou_base.specs.declared.asks.Asks.{Asks}

@@ -10,7 +10,7 @@ use Rattle.bayou_lang.specs.declared.write.Write.{Write}
 use Rattle.bayou_lang.specs.Writes.{count_of, Fits}
 use Rattle.bayou_judge.specs.History.{dump_of, IsReadFrom, IsWriteOf}
 
--- A server can have held the Write behind these: it fits them; if it is the server's own, it says that all of these were
+-- A server can have held the Write after these: it fits them; if it is the server's own, it says that all of these were
 -- held; and no smaller server's dump has another Write of its name.
 pub record IsGood (count : ℕ) (dumps : List (List Write)) (server : ℕ) (before : List Write) (write : Write) : Type 0 where
   pub fits : Fits count before write
@@ -46,7 +46,7 @@ IsTrueOf dump server earlier (whats.Write wid stamp deps) = (wid.origin ≡ serv
     × All (λ entry. ¬ TellsOf wid entry.what) earlier
 IsTrueOf dump server earlier whats.Refused = ⊤
 
--- The entry can stand behind these: it is of one of the servers, its place is above those of its session before it, its
+-- The entry can stand after these: it is of one of the servers, its place is above those of its session before it, its
 -- session asks for what it asked for before, and it tells of what was done.
 pub record IsGenuine (count : ℕ) (dumps : List (List Write)) (earlier : List Entry) (entry : Entry) : Type 0 where
   pub server : entry.server.index < count

@@ -7,9 +7,9 @@ pub enum Guarantee {
     ReadYourWrites,
     /// Reads see what the session's reads saw before.
     MonotonicReads,
-    /// Writes stand, wherever they stand, behind what the session had read before.
+    /// Writes stand, wherever they stand, after what the session had read before.
     WritesFollowReads,
-    /// Writes stand, wherever they stand, behind what the session had written before.
+    /// Writes stand, wherever they stand, after what the session had written before.
     MonotonicWrites,
 }
 

@@ -1,4 +1,4 @@
-//! What an operation demands of the Writes that its session was told of.
+//! What an operation demands of the Writes that its session heard of.
 ghost use Rattle.std.specs.Prelude.{◌≡◌, ◌<◌, ◌↔◌, ℕ, List, IsTrue, length};
 ghost use Rattle.std.specs.Bool.{OnTrue};
 ghost use Rattle.bayou_lang.specs.declared.write.Write.{Write};

@@ -33,7 +33,7 @@ fn is_above(latest: Latest, entry: &Entry) -> bool
     latest.place < entry.place
 }
 
-/// Whether the entry may stand behind the last of its session, if there is one.
+/// Whether the entry may stand after the last of its session, if there is one.
 fn follows(latest: Option<Latest>, entry: &Entry) -> bool
     ensures { (earlier : List Entry) → IsLatest earlier entry.now.session.index latest → IsTrue result ↔ Follows earlier entry.now }
 {

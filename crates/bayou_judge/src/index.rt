@@ -68,7 +68,7 @@ impl Index {
         Ok(())
     }
 
-    /// Adds one more Write behind those of the index.
+    /// Adds one more Write after those of the index.
     pub(crate) fn add(&mut self, write: &RestingWrite) -> Result<(), AllocError>
         ensures { (count : ℕ) (writes : List Write) → IsIndexOf writes self.old → AreFitting count writes → Fits count writes write.now
             → OnOk result (IsIndexOf (writes ++ write.now ∷ []) self.new) }

@@ -86,7 +86,7 @@ fn first_of(entries: &[Entry], list: &[Surveyed]) -> Option<Breach>
 
 /// The verdict on entries that were surveyed: what [`judge`] answers, of one pass over the entries that was made already.
 ///
-/// It allocates nothing. For each breach that was surveyed, of which there are four a session at most, it goes over the entries once
+/// It allocates nothing. For each breach that was surveyed, four a session at most, it goes over the entries once
 /// at most.
 pub fn verdict_of(entries: &[Entry], surveyed: &[Surveyed]) -> Verdict
     ensures { (count : ℕ) (dumps : List (List Write)) → IsEvidence count entries.now dumps → IsSurvey (history_of entries.now dumps) entries.now surveyed.now

@@ -1,4 +1,4 @@
-//! What a session was told of, by vectors.
+//! What a session heard of, by vectors.
 ghost use Rattle.std.specs.Prelude.{◌≡◌, ◌⊎◌, List, ℕ, Some, sum, true};
 ghost use Rattle.bayou_base.specs.Vector.{Covers};
 ghost use Rattle.bayou_base.specs.declared.entry.What.TheVariants as whats;
@@ -15,7 +15,7 @@ use crate::evidence::Evidence;
 use crate::index::later_of;
 use bayou_base::{ServerId, Stamp, Vector, What, Wid};
 
-/// The Writes that a session was told of: for each server the greatest of their sequence numbers, and their last stamp.
+/// The Writes that a session heard of: for each server the greatest of their sequence numbers, and their last stamp.
 #[derive(Clone, Copy)]
 pub(crate) struct Need {
     pub(crate) counts: Vector,
@@ -33,7 +33,7 @@ fn last_of(last: Option<Stamp>, other: Option<Stamp>) -> Option<Stamp>
 }
 
 impl Need {
-    /// What one is told of who is told of nothing.
+    /// The need of who heard of nothing.
     pub(crate) fn none() -> Self
         ensures { (write : Write) → ¬ IsNeeded result write }
     {

@@ -14,7 +14,7 @@ use crate::needs::{Need, Needs};
 use crate::verdict::Surveyed;
 use bayou_base::{SESSIONS, SessionId};
 
-/// What a session was told of so far, and the first breach of each guarantee so far, if there was one.
+/// What a session heard of so far, and the first breach of each guarantee so far, if there was one.
 #[derive(Clone, Copy)]
 pub(crate) struct Progress {
     pub(crate) needs: Needs,
@@ -64,7 +64,7 @@ impl Progress {
 }
 
 impl<'a> Evidence<'a> {
-    /// What is needed by the session of this entry once it was told of it too.
+    /// What is needed by the session of this entry once it learned of it too.
     fn needs_with(&self, at: usize, needs: &Needs) -> Needs
         requires at { at < length self.now.entries }
         ensures { (session : ℕ) (guarantee : Guarantee) → IsNeedOf self.now.dumps guarantee session (take at self.now.entries) (need_for needs.now guarantee)

@@ -7,7 +7,7 @@ use bayou_base::{SERVERS, What, Wid};
 use std::alloc::{AllocError, Global};
 use std::marker::Model;
 
-/// A row for each sequence number: of which server's Write that has it was told.
+/// A row for each sequence number: of which servers' Writes with that number entries told.
 #[derive(Drop)]
 pub(crate) struct Told {
     rows: Vec<[bool; SERVERS]>,

@@ -24,7 +24,7 @@ pub const LABEL_START_BYTES: usize = 14;
 /// What a label begins with.
 pub const LABEL_START: [u8; LABEL_START_BYTES] = *b"bayou-store-1 ";
 
-/// How many bytes stand behind the name in a label: a space, the digits and a line feed.
+/// How many bytes stand after the name in a label: a space, the digits and a line feed.
 pub const LABEL_END_BYTES: usize = 1 + SECRET_DIGITS + 1;
 
 /// How many bytes a label has at the most, with its line feed.
@@ -72,7 +72,7 @@ fn is_same(found: &[u8], wanted: &[u8]) -> bool
     found == wanted
 }
 
-// What stands behind the beginning of a label, where the text begins as one.
+// What stands after the beginning of a label, where the text begins as one.
 fn behind_start(text: &[u8]) -> Option<&[u8]>
     ensures { (behind : List ℕ) → text.now ≡ label_start ++ behind → IsSomeAnd result (λ found. found.now ≡ behind) }
 {
@@ -135,7 +135,7 @@ fn is_label_of(text: &[u8], key: &Option<StoreKey>) -> bool
     }
 }
 
-/// That the text is the label of what is of this key's store. What is of another store is told by that store's name.
+/// That the text is the label of what is of this key's store. What is of another store is reported by that store's name.
 pub fn judge_label(text: &[u8], key: &Option<StoreKey>) -> Result<(), LabelFault>
     ensures own { IsLabelOf text.now key.now → result ≡ Ok tt }
     ensures only { result ≡ Ok tt → IsLabelOf text.now key.now }

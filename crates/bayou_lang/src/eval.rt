@@ -33,7 +33,7 @@ pub trait Look {
     fn look(&self, key: &Key) -> Option<Value>
         ensures { result ≡ value_at (database self.now) key.now };
 
-    /// Whether at most so many of the keys that are present begin so. It may stop counting behind those.
+    /// Whether at most so many of the keys that are present begin so. It may stop counting after those.
     fn has_at_most(&self, prefix: &Prefix, most: u32) -> bool
         ensures { result ≡ nat_le (number_with prefix.now (database self.now)) most };
 }

@@ -167,7 +167,7 @@ impl Cond {
 }
 
 impl Alt {
-    /// The alternative of these conditions and ops. The first list that is too long is told.
+    /// The alternative of these conditions and ops. The first list that is too long is reported.
     pub fn new(when: &[Cond], ops: &[Op]) -> Result<Self, ProgramFault>
         ensures { MatchResult result
             (λ alt. (program_fault when.now ops.now [] ≡ None) × (alt.when.items ≡ when.now) × (alt.ops.items ≡ ops.now))
@@ -197,7 +197,7 @@ impl Alt {
 }
 
 impl Program {
-    /// The program of this dependency check, update and merge procedure. The first list that is too long is told.
+    /// The program of this dependency check, update and merge procedure. The first list that is too long is reported.
     pub fn new(check: &[Cond], update: &[Op], merge: &[Alt]) -> Result<Self, ProgramFault>
         ensures { MatchResult result
             (λ program. (program_fault check.now update.now merge.now ≡ None)

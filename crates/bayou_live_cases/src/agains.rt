@@ -1,4 +1,4 @@
-//! What a session may ask again, whose link was cut behind a request: until it begins a read, or another client holds it.
+//! What a session may ask again, whose link was cut after a request: until it begins a read, or another client holds it.
 ghost use Rattle.std.specs.Prelude.{◌≡◌};
 ghost use Rattle.bayou_audit.specs.Blanks.{AreBlanksOf, named};
 
@@ -22,7 +22,7 @@ fn is_first(server: Option<ServerId>) -> bool {
     }
 }
 
-/// Whether the session's Write at the first server is lost, over a link that is cut behind the request.
+/// Whether the session's Write at the first server is lost, over a link that is cut after the request.
 fn loses_a_write<K: Ledgers, R: Wait + Abort>(
     rt: &R,
     alloc: Global,

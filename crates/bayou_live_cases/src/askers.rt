@@ -1,4 +1,4 @@
-//! A session that asks without a book, and what a link is told that asks for nobody: of replies of each kind.
+//! A session that asks without a book, and what a link hears that asks for nobody: of replies of each kind.
 use crate::clients::{parts, reader_before};
 use crate::fakes::{Counting, Slow, slow_reader, slow_writer};
 use crate::fixtures::{bytes, key, must_hold, resting_put, server_id};
@@ -53,7 +53,7 @@ const AGAIN: &str = "again 004a 12 00 00000002 00000002 <one> => served write no
 again 0002 13 03 => Refused refusal yes
 again  => Lost nothing yes";
 
-/// What is replied to a read of `a` that needs nothing, and what is told of it: how many Writes of the first server are held, and whether there is a value.
+/// What is replied to a read of `a` that needs nothing, and what is reported of it: how many Writes of the first server are held, and whether there is a value.
 const LOOKED: &str = "vector 0042 11 00 <none> => 0
 vector 004a 11 01 0000000000000001 <one> => 1
 vector 0042 13 02 <one> => Refused
@@ -138,7 +138,7 @@ fn lists(
     heard_words(asker.list(alloc, link, server_id(rt), &asked), 1)
 }
 
-/// What it is told became of the first server's first Write there.
+/// What it hears became of the first server's first Write there.
 fn asks_after(
     rt: &impl Abort,
     alloc: Global,
@@ -251,7 +251,7 @@ fn a_lost_write_is_sent_again(rt: HostRuntime) {
     }
 }
 
-/// The word for the vector that a link is told.
+/// The word for the vector that a link hears.
 fn vector_word(alloc: Global, link: &mut Over<'_, '_>) -> &'static str {
     match link.vector(alloc) {
         Ok(vector) if vector.counts()[0] == 0 => "0",
@@ -261,7 +261,7 @@ fn vector_word(alloc: Global, link: &mut Over<'_, '_>) -> &'static str {
     }
 }
 
-/// The word for what it is told of `a`.
+/// The word for what it hears of `a`.
 fn look_word(rt: &impl Abort, alloc: Global, link: &mut Over<'_, '_>) -> &'static str {
     match link.look(alloc, &key(rt)) {
         Ok(seen) if seen.value.is_some() => "value",
@@ -270,7 +270,7 @@ fn look_word(rt: &impl Abort, alloc: Global, link: &mut Over<'_, '_>) -> &'stati
     }
 }
 
-/// Whether a link that is replied this is told what is expected, once a read of `a` that needs nothing was sent.
+/// Whether a link that gets this reply reports what is expected, once a read of `a` that needs nothing was sent.
 fn looks(rt: &impl Abort, alloc: Global, request: &str, reply: &[u8], expected: &str) -> bool {
     let mut writer = slow_writer(alloc, 4096, 0);
     let mut link = Link::new(slow_reader(reply, 4096, 0), &mut writer);

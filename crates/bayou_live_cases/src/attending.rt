@@ -52,7 +52,7 @@ impl<L: Desks + Send + Sync> Attendant for Porch<'_, L> {
 /// Who comes.
 #[derive(Clone, Copy)]
 enum Visitors {
-    /// So many who ask, one behind the other.
+    /// So many who ask, one after the other.
     InTurn(u8),
     /// One who says nothing and stays, and one who asks.
     Beside,
@@ -98,7 +98,7 @@ fn is_replied(alloc: Global, stream: &TcpStream, reply: &str) -> bool {
     reader.read_to_end(&mut told).is_ok() && is_said(alloc, reply, &told)
 }
 
-/// Whether one who makes this Write, the first, second .. ninth one, is told that it was accepted.
+/// Whether one who makes this Write, the first, second .. ninth one, learns that it was accepted.
 fn is_served<R: Net<Stream = TcpStream>>(
     rt: &R,
     alloc: Global,
@@ -123,7 +123,7 @@ fn is_served<R: Net<Stream = TcpStream>>(
     is_sent && is_replied(alloc, &stream, reply.as_str())
 }
 
-/// Whether so many are served, one behind the other.
+/// Whether so many are served, one after the other.
 fn are_served<R: Net<Stream = TcpStream>>(
     rt: &R,
     alloc: Global,
@@ -193,7 +193,7 @@ fn visit<R: Net<Stream = TcpStream>>(
     }
 }
 
-/// The desks again, if no visitor found it otherwise than it was to be, nobody is let in behind them, and each desk had a thread.
+/// The desks again, if no visitor found it otherwise than it was to be, nobody is let in after them, and each desk had a thread.
 fn attended<L, R>(
     rt: &R,
     alloc: Global,

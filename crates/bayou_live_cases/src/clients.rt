@@ -44,7 +44,7 @@ write 004a 12 01 00000002 00000002 <one> => BadFrame 0 0 0
 write 0042 11 00 <one> => BadFrame 0 0 0
 write 004a 12 00 00000002 00000002 => Lost 0 0 0";
 
-/// The same of replies behind which more comes in one piece.
+/// The same of replies after which more comes in one piece.
 const MORE: &str = "read 0042 11 00 <one> 00 => BadFrame 0 0 0
 read 0042 11 00 <one> 0002 13 03 => BadFrame 0 0 0
 read 0002 13 03 0002 13 03 => BadFrame 0 0 0
@@ -60,7 +60,7 @@ const SECOND_READ: &str = "0043 01";
 
 const SECOND_WRITE: &str = "005a 06 <tag-2>";
 
-/// What a row asks, what is replied to that, and what is told then.
+/// What a row asks, what is replied to that, and what the client reports then.
 pub fn parts(row: &str) -> Option<(&str, &str, &str)> {
     let (said, expected) = row.split_once(" => ")?;
     let (request, reply) = said.split_once(' ')?;
@@ -105,7 +105,7 @@ fn word_of(fault: ClientFault) -> &'static str {
     }
 }
 
-/// What a session was told as it tried an operation, and what then stood in the book.
+/// What a session heard as it tried an operation, and what then stood in the book.
 #[derive(Clone, Copy)]
 struct Told {
     word: &'static str,
@@ -224,7 +224,7 @@ fn tried_with<K: Ledgers, R: Wait + Abort>(
     }
 }
 
-/// What the session is told of the two, over a link of this reader and this writer.
+/// What the session hears of the two, over a link of this reader and this writer.
 fn both_told<K: Ledgers, R: Wait + Abort>(
     rt: &R,
     alloc: Global,
@@ -264,7 +264,7 @@ fn are_first<K: Ledgers, R: Wait + Abort>(
     are_so
 }
 
-/// Whether this was told and that was sent, and nothing is told over the link any more if no answer came.
+/// Whether this was answered and that was sent, and the link answers nothing any more if no answer came.
 fn is_tried(
     rt: &impl Abort,
     alloc: Global,
@@ -283,7 +283,7 @@ fn is_tried(
         && tried.is_first
 }
 
-/// Whether this is what was told, and what stands in the book.
+/// Whether this is what was answered, and what stands in the book.
 fn is_worded(rt: &impl Abort, alloc: Global, word: &str, totals: &Totals, expected: &str) -> bool {
     let said = format!(in alloc;
         "{} {} {} {}",
@@ -345,7 +345,7 @@ fn row_holds<R: Wait + Abort>(rt: &R, alloc: Global, row: &str, most: usize) -> 
     }
 }
 
-/// Whether a session that is replied this, in pieces of at most so many bytes, and sends in such, is told what is expected.
+/// Whether a session that gets this reply, in pieces of at most so many bytes, and sends in such, hears what is expected.
 fn is_told<R: Wait + Abort>(
     rt: &R,
     alloc: Global,
@@ -399,8 +399,8 @@ fn request_and_reply(rt: &impl Abort, alloc: Global, is_read: bool) -> (Vec<u8>,
     (bytes(rt, alloc, request), bytes(rt, alloc, reply))
 }
 
-/// Whether nothing is told and nothing entered where this call fails, over a link that is closed then, once a front of the request was sent;
-/// but that the operation is served where the call is one behind its last.
+/// Whether nothing is reported and nothing entered where this call fails, over a link that is closed then, once a front of the request was sent;
+/// but that the operation is served where the call is one after its last.
 fn fails_at<R: Wait + Abort>(rt: &R, alloc: Global, failing: &Failing, at: u32) -> bool {
     let (request, reply) = request_and_reply(rt, alloc, failing.is_read);
     let (read, write) = if failing.is_of_reader {
@@ -417,7 +417,7 @@ fn fails_at<R: Wait + Abort>(rt: &R, alloc: Global, failing: &Failing, at: u32) 
     tells_nothing(&tried) && is_sent_up_to(&writer, &request, write)
 }
 
-/// Whether as much of the request was sent as came before this call of the writer, if one failed, and no call came behind it.
+/// Whether as much of the request was sent as came before this call of the writer, if one failed, and no call came after it.
 pub fn is_sent_up_to(writer: &Counting, request: &[u8], fails_at: u32) -> bool {
     let calls = match fails_at {
         0 => request.len(),
@@ -467,7 +467,7 @@ fn a_session_is_told_of_nothing_behind_a_reply(rt: HostRuntime) {
     }
 }
 
-/// Each call fails so, in turn, from the first to one behind the last.
+/// Each call fails so, in turn, from the first to one after the last.
 fn each_fails<R: Wait + Abort>(rt: &R, alloc: Global, failing: &Failing) {
     for at in 1..failing.calls.saturating_add(2) {
         must_be_so(rt, fails_at(rt, alloc, failing, at), at as usize);

@@ -45,7 +45,7 @@ pub fn tag(rt: &impl Abort, number: u32) -> Tag {
     values::tag(number).expect(rt, "no tag")
 }
 
-/// The tag of the place behind those of the node's own Writes: a fresh one, where these were given theirs so, and no other thread is at work.
+/// The tag of the place after those of the node's own Writes: a fresh one, where these were given theirs so, and no other thread is at work.
 pub fn next_tag<D: Device, L: Desks, R: Wait + Abort>(rt: &R, node: &Node<D, L>) -> Tag {
     tag(rt, node.offer(rt).get(node.id()).saturating_add(1))
 }

@@ -1,4 +1,4 @@
-//! A link over which a journal is to be opened again, and all Writes held are asked for: what is told of each reply, byte for byte, whatever
+//! A link over which a journal is to be opened again, and all Writes held are asked for: what is reported of each reply, byte for byte, whatever
 //! pieces it comes in.
 use crate::clients::{is_sent_up_to, parts};
 use crate::fakes::{Counting, Slow, slow_reader, slow_writer};
@@ -9,7 +9,7 @@ use bayou_fakes::words::is_said;
 use std::alloc::Global;
 use std::process::Abort;
 
-/// What is replied, and what is told of it: a Write that was adopted, how many Writes came, or why there is no answer.
+/// What is replied, and what is reported of it: a Write that was adopted, how many Writes came, or why there is no answer.
 const ROWS: &str = "reopen 0002 14 00 => none
 reopen 0007 14 01 00 00000001 => one
 reopen 0002 13 05 => Refused
@@ -81,7 +81,7 @@ fn dump_word(alloc: Global, link: &mut Link<Slow<'_>, &mut Counting>) -> &'stati
     }
 }
 
-/// What was told over a link of this reader and this writer, and whether it is closed then.
+/// What a link of this reader and this writer answered, and whether it is closed then.
 fn asked(
     alloc: Global,
     is_dump: bool,
@@ -97,7 +97,7 @@ fn asked(
     (word, link.is_closed())
 }
 
-/// Whether this is what is told where this is replied, in pieces of at most so many bytes; then the request was sent, in such too, and the
+/// Whether this is what is reported where this is replied, in pieces of at most so many bytes; then the request was sent, in such too, and the
 /// link is closed if no answer came.
 fn is_told(alloc: Global, is_dump: bool, reply: &[u8], most: usize, expected: &str) -> bool {
     let mut writer = slow_writer(alloc, most, 0);
@@ -159,8 +159,8 @@ static FAILING: [Failing; 4] = [
     },
 ];
 
-/// Whether nothing is told where this call fails, over a link that is closed then, once a front of the request was sent; but that it is
-/// answered where the call is one behind its last.
+/// Whether nothing is reported where this call fails, over a link that is closed then, once a front of the request was sent; but that it is
+/// answered where the call is one after its last.
 fn fails_at(rt: &impl Abort, alloc: Global, failing: &Failing, at: u32) -> bool {
     let reply = bytes(rt, alloc, if failing.is_dump { DUMPED } else { REOPENED });
     let (read, write) = if failing.is_of_reader {
@@ -186,7 +186,7 @@ fn fails_at(rt: &impl Abort, alloc: Global, failing: &Failing, at: u32) -> bool 
     word == "Lost" && is_closed && is_sent_up_to(&writer, &request, write)
 }
 
-/// Each call fails so, in turn, from the first to one behind the last.
+/// Each call fails so, in turn, from the first to one after the last.
 fn each_fails(rt: &impl Abort, alloc: Global, failing: &Failing) {
     for at in 1..failing.calls.saturating_add(2) {
         must_be_so(rt, fails_at(rt, alloc, failing, at), at as usize);

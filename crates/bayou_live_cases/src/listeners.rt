@@ -99,7 +99,7 @@ fn both<K: Ledgers>(rt: &impl Abort, shares: Vec<Share<K>>) -> (Share<K>, Share<
     (shares.pop().expect(rt, "no share"), second)
 }
 
-/// Two sessions reach the listener; then it is told to stop, and reached once more.
+/// Two sessions reach the listener; then it is asked to stop, and reached once more.
 fn reaches<S, T, U, V, R>(
     rt: &R,
     alloc: Global,

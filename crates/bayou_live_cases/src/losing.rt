@@ -1,4 +1,4 @@
-//! Whether another server has Writes of a server's own that it lost: what is told where the stream fails at each of its calls.
+//! Whether another server has Writes of a server's own that it lost: what is reported where the stream fails at each of its calls.
 use crate::fakes::slow_reader;
 use crate::fixtures::{bytes, must_be_so, server_id};
 use bayou_frames::ChannelFault;

@@ -105,7 +105,7 @@ fn a_node_is_settled_once_all_desks_are_back(rt: HostRuntime) {
     assert!(rt; is_so);
 }
 
-/// Whether a Write is in doubt, no other is made then, and a reopening adopts it. There is nothing to reopen before or behind that.
+/// Whether a Write is in doubt, no other is made then, and a reopening adopts it. There is nothing to reopen before or after that.
 fn doubts<L: Desks, R: Wait + Abort>(rt: &R, alloc: Global, site: &mut Site<Memory, L>) -> bool {
     let was_up = reopened(rt, alloc, &site.node) == Err(ReopenFault::NotDown);
     let is_doubted = writes(rt, alloc, site, 0, &put(rt, 3)) == Err(WriteFault::Journal);

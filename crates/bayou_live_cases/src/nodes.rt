@@ -225,7 +225,7 @@ fn batches<L: Desks, R: Wait + Abort>(
     calls.get()
 }
 
-/// Forty Items are sent sixteen at a time, and an End behind them.
+/// Forty Items are sent sixteen at a time, and an End after them.
 #[test]
 fn a_node_is_free_between_two_batches(rt: HostRuntime) {
     let alloc = rt.alloc();

@@ -143,8 +143,8 @@ fn diary_of(rt: &impl Abort, alloc: Global, sent: &[u8], most: usize) -> Option<
 /// Two Writes of 1 to `a`, of 92 bytes each.
 const WRITES: &str = "005a 06 <tag-1> <none> <put-1> 005a 06 <tag-2> <none> <put-1>";
 
-/// A request that is read alone passes the gate behind its reading, and before its Write is added and its reply written. Of two that come at
-/// once the second passes it behind the reply to the first.
+/// A request that is read alone passes the gate after its reading, and before its Write is added and its reply written. Of two that come at
+/// once the second passes it after the reply to the first.
 #[test]
 fn a_gate_is_passed_behind_the_reading_and_before_the_doing(rt: HostRuntime) {
     let sent = bytes(&rt, rt.alloc(), WRITES);

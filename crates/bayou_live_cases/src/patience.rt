@@ -41,7 +41,7 @@ fn calls_and_asked(patient: &Patient<Slow, Waits>) -> (u64, u64) {
     (patient.calls(), patient.patience().asked)
 }
 
-/// Whether a byte that comes behind so many waits, or a failure, is told where there is patience for more calls than those, and else that the
+/// Whether a byte that comes after so many waits, or a failure, is reported where there is patience for more calls than those, and else that the
 /// time is out; and whether the reader was called once for each yes.
 fn is_waited_for(waits: u32, fails: bool, patience: u32) -> bool {
     let (mut reader, mut piece) = (patient(waits, fails, patience), [0; 4]);
@@ -55,7 +55,7 @@ fn is_waited_for(waits: u32, fails: bool, patience: u32) -> bool {
     is_told && calls_and_asked(&reader) == (calls, asked)
 }
 
-/// Five numbers of waits, seven of patience, and a byte or a failure behind the waits.
+/// Five numbers of waits, seven of patience, and a byte or a failure after the waits.
 #[test]
 fn a_byte_is_waited_for_as_long_as_there_is_patience(rt: HostRuntime) {
     for case in 0..70_u32 {

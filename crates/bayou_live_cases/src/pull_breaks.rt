@@ -142,7 +142,7 @@ fn at_node<L: Desks, R: Wait>(
     }
 }
 
-/// What the run comes to that is told so, with these Writes behind it.
+/// What the run comes to that is reported so, with these Writes after it.
 fn come_to(told: Told, streams: Streams<'_>, held: Vec<RestingWrite>, is_exact: bool) -> Ran {
     let (reader, writer) = streams.into_parts();
     let reads = reader.calls;
@@ -227,7 +227,7 @@ fn ran_row<R: Wait + Abort>(
     }
 }
 
-/// Whether the run was told so, and left what the other one left.
+/// Whether the run came to this, and left what the other one left.
 fn is_as(ran: &Ran, told: Told, written: &[u8], held: &[RestingWrite]) -> bool {
     ran.told == told
         && ran.written.as_slice() == written
@@ -236,7 +236,7 @@ fn is_as(ran: &Ran, told: Told, written: &[u8], held: &[RestingWrite]) -> bool {
 }
 
 /// Whether the run, whose reader fails at this call, is as the one to which no more was sent than what came before; but that the fault of
-/// the reader is told in place of the end of the input, and that no call comes behind it.
+/// the reader is reported in place of the end of the input, and that no call comes after it.
 fn is_as_read(ran: &Ran, before: &Ran, fails_at: u32) -> bool {
     let is_cut = before.told == Err(PullFault::Stream(ChannelFault::Cut));
     let told = if is_cut {
@@ -249,7 +249,7 @@ fn is_as_read(ran: &Ran, before: &Ran, fails_at: u32) -> bool {
         && ran.reads <= fails_at
 }
 
-/// One more than as many calls as there are bytes, and the one behind them.
+/// One more than as many calls as there are bytes, and the one after them.
 fn calls_for(rt: &impl Abort, bytes: &[u8]) -> u32 {
     let count = u32::try_from(bytes.len()).ok().expect(rt, "too many bytes");
     count.saturating_add(2)
@@ -266,7 +266,7 @@ fn reads_fail<R: Wait + Abort>(rt: &R, alloc: Global, row: &Row, is_at_node: boo
     }
 }
 
-/// Whether the run, whose writer fails at this call, is as the whole one up to there, with nothing read behind that and nothing taken; or as
+/// Whether the run, whose writer fails at this call, is as the whole one up to there, with nothing read after that and nothing taken; or as
 /// the whole one where it doesn't come to that call.
 fn is_as_written(ran: &Ran, whole: &Ran, row: &Row, fails_at: usize) -> bool {
     let count = whole.written.len();

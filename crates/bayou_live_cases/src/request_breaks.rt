@@ -17,8 +17,8 @@ use std::process::Abort;
 use std::sync::Wait;
 use std::sync::ledger::Blank;
 
-/// What is asked, one request behind the other: a Write, a read of it, a read that isn't served yet, one more Write, all Writes, those
-/// behind the first, a reopening, and what is no request.
+/// What is asked, one request after the other: a Write, a read of it, a read that isn't served yet, one more Write, all Writes, those
+/// after the first, a reopening, and what is no request.
 const REQUESTS: [&str; 8] = [
     "005a 06 <tag-1> <none> <put-1>",
     "0043 01 <one> 0161",
@@ -48,7 +48,7 @@ struct Ran {
     is_exact: bool,
 }
 
-/// What the run comes to that is told so, with these Writes behind it.
+/// What the run comes to that is reported so, with these Writes after it.
 fn come_to(
     told: Result<u32, ChannelFault>,
     streams: Streams<'_>,
@@ -137,7 +137,7 @@ fn ran_over<R: Wait + Abort>(
     }
 }
 
-/// Whether the run was told so and wrote that, and left what the other one left.
+/// Whether the run came to this and wrote that, and left what the other one left.
 fn is_as(ran: &Ran, told: Result<u32, ChannelFault>, written: &[u8], other: &Ran) -> bool {
     ran.told == told
         && ran.written.as_slice() == written
@@ -146,7 +146,7 @@ fn is_as(ran: &Ran, told: Result<u32, ChannelFault>, written: &[u8], other: &Ran
 }
 
 /// Whether the run, whose reader fails at this call, is as the one to which no more was sent than what came before; but that the fault of
-/// the reader is told in place of the end of the input.
+/// the reader is reported in place of the end of the input.
 fn is_as_read(ran: &Ran, before: &Ran, fails_at: u32) -> bool {
     let is_over = before.told == Err(ChannelFault::BadFrame);
     let told = if is_over {
@@ -157,7 +157,7 @@ fn is_as_read(ran: &Ran, before: &Ran, fails_at: u32) -> bool {
     is_as(ran, told, &before.written, before) && (ran.reads == fails_at) != is_over
 }
 
-/// All requests, one behind the other.
+/// All requests, one after the other.
 fn all_of(rt: &impl Abort, alloc: Global, requests: &[&str]) -> Vec<u8> {
     let mut sent = Vec::new(alloc);
     for request in requests {
@@ -215,7 +215,7 @@ fn replied(fronts: &[Front], count: usize) -> Option<&Front> {
 }
 
 /// Whether the run, whose writer fails at this call, is as the one to which no more was sent than the request whose reply it fell into: with
-/// a front of its replies, and what stands behind it neither read nor done.
+/// a front of its replies, and what stands after it neither read nor done.
 fn is_as_written(ran: &Ran, front: &Front, fails_at: usize) -> bool {
     let end = fails_at.saturating_sub(1).min(front.ran.written.len());
     is_as(
@@ -245,7 +245,7 @@ fn is_as_told(ran: &Ran, fronts: &[Front], fails_at: usize) -> bool {
     }
 }
 
-/// Each write of replies fails so, from the first to one behind the last.
+/// Each write of replies fails so, from the first to one after the last.
 fn writes_fail<R: Wait + Abort>(rt: &R, alloc: Global, is_at_node: bool) {
     let sent = all_of(rt, alloc, &REQUESTS);
     let fronts = fronts(rt, alloc, is_at_node);

@@ -1,4 +1,4 @@
-//! Changes one behind another, in less memory than so many changes take.
+//! Changes one after another, in less memory than so many changes take.
 ghost use Rattle.std.specs.Prelude.{◌≡◌, ◌^◌, ◌<◌, ◌≤◌, [], ◌∷◌, ◌++◌, MatchOption, OnOk, length};
 
 use bayou_base::{Key, Text, Value};
@@ -86,7 +86,7 @@ impl ChangeList {
         Ok(())
     }
 
-    /// Adds the change behind the others, which takes no memory.
+    /// Adds the change after the others, which takes no memory.
     pub(crate) fn push_reserved(&mut self, change: Change)
         requires { length self.old.items < self.old.room }
         ensures { self.new ≡ record self.old { items = self.old.items ++ change ∷ [] } }

@@ -37,7 +37,7 @@ impl Model for UndoStack {
     ghost invariant = { λ s. (all_of s.sizes.items ≡ length s.changes.items) × All (λ size. size ≤ MAX_OPS) s.sizes.items × (s.promised ≤ s.changes.room) };
 }
 
-/// Adds copies of the changes behind those of the list, which takes no memory.
+/// Adds copies of the changes after those of the list, which takes no memory.
 fn push_all(list: &mut ChangeList, changes: &[Change])
     requires { length list.old.items + length changes.now ≤ list.old.room }
     ensures { list.new ≡ record list.old { items = list.old.items ++ changes.now } }

@@ -317,7 +317,7 @@ impl WriteLog {
         first
     }
 
-    /// The server's Write behind those of its Writes that are counted, if it is held.
+    /// The server's Write after those of its Writes that are counted, if it is held.
     fn next_of(&self, server: usize, counted: u32) -> Option<&RestingWrite>
         requires { server < SERVERS }
         ensures held { IfSome result (λ write. Contains self.now.receipts write.now) }
@@ -377,7 +377,7 @@ impl WriteLog {
     }
 
     /// Applies the Writes that wait, from which no want of memory keeps it. Those that come after one of them in stamp order are taken back, the last
-    /// first, and are applied again behind it (Terry et al. 1995): once, however many wait.
+    /// first, and are applied again after it (Terry et al. 1995): once, however many wait.
     pub fn catch_up(&mut self)
         ensures { self.new ≡ record self.old { waiting = 0 } }
     {

@@ -48,6 +48,7 @@ at_place who number tag program begins before after old begun now answer left ta
   writes = subst (λ (n : List ℕ). Writes replied.old.core tag n program replied.result replied.new.core) (ap (λ (s : Seat). write_need s.told) is ∙ need) replied.writes;
   stores = replied.stores;
   sound = replied.sound;
+  others = replied.others;
   safe = replied.safe;
   calls = replied.calls;
   answered = replied.answered;

@@ -1,5 +1,5 @@
 -- What a server of a script makes of each command, and what a session is told of it.
-use Rattle.std.specs.Prelude.{◌≡◌, ◌≢◌, ℕ, ◌+◌, ◌<◌, ◌⊎◌, List, Result, Ok, Err, length, Bool, true, false, Some}
+use Rattle.std.specs.Prelude.{◌≡◌, ◌≢◌, ℕ, ◌+◌, ◌<◌, ◌⊎◌, List, [], Result, Ok, Err, length, Bool, true, false, Some}
 use Rattle.bayou_base.specs.declared.answer.Seen.{Seen}
 use Rattle.bayou_base.specs.declared.limits.TheConstants.{MAX_PLACES}
 use Rattle.bayou_base.specs.declared.server.ServerId.{ServerId}
@@ -95,6 +95,7 @@ pub record AnswersWrite (who : SessionId) (number : ℕ) (program : Program) (be
   pub writes : Writes old.core tag (write_need seat.told) program result new.core
   pub stores : StoresWrite memory_device old result new
   pub sound : IsSoundServer old.core × IsSoundServer new.core
+  pub others : new.taking ≡ old.taking
   pub safe : KeepsChains (kept_bytes old.device) (kept_bytes new.device)
   pub calls : LeadsTo 2 old.device new.device
   pub answered : answer ≡ reply_of seat.drops who (write_answer who result)
@@ -128,9 +129,10 @@ IsRead who key replica seat answer now = GetsNoReply who begins_read replica sea
 
 -- ---- what is asked of servers alone
 
--- the server was started, on this device: so many bytes were cut behind its journal's entries
+-- the server was started, on this device: so many bytes were cut after its journal's entries
 pub record IsStarted (count limit place : ℕ) (device : Memory) (server : Serving) (dropped : ℕ) : Type 0 where
   pub starts : Starts place count limit server.core
+  pub others : server.taking ≡ []
   pub opens : StartsOn memory_device device server dropped
   pub calls : OpensInCalls memory_device place device server.device
 
@@ -189,11 +191,11 @@ abbrev pub IsReopened : ServerId → ScriptServer → Recovery → ScriptServer 
 IsReopened id before (Reopened name adopted) after = (name ≡ id) × ((old new : Serving) × (before ≡ Running old) × (after ≡ Running new)
     × ReopensAll old.core old.taking (Ok (record { adopted = adopted })) new.core × ReopensJournal memory_device old (Ok (record { adopted = adopted })) new
     × OpensInCalls memory_device old.core.id old.device new.device
-    × IsSoundServer old.core × IsSoundServer new.core × KeepsChains (kept_bytes old.device) (kept_bytes new.device))
+    × IsSoundServer old.core × IsSoundServer new.core × KeepsChains (kept_bytes old.device) (kept_bytes new.device) × (new.taking ≡ []))
 IsReopened id before (NotReopened refusal) after = (old new : Serving) × (fault : ReopenFault) × (before ≡ Running old) × (after ≡ Running new)
     × (refusal ≡ reopen_refusal fault)
     × ReopensAll old.core old.taking (Err fault) new.core × ReopensJournal memory_device old (Err fault) new × OpensInCalls memory_device old.core.id old.device new.device
-    × IsSoundServer old.core × IsSoundServer new.core × KeepsChains (kept_bytes old.device) (kept_bytes new.device)
+    × IsSoundServer old.core × IsSoundServer new.core × KeepsChains (kept_bytes old.device) (kept_bytes new.device) × (new.taking ≡ old.taking)
 IsReopened id before NotRunning after = (left : StoppedServer Memory) × (before ≡ Stopped left) × (after ≡ before)
 IsReopened id before (Restarted name holds dropped) after = ⊥
 IsReopened id before (NotRestarted refusal) after = ⊥

@@ -42,7 +42,7 @@ asks_at place program seat = record { told = asks_first seat.told; asked = Some 
 abbrev pub asks_once_more : Seat → Seat
 asks_once_more seat = record { told = asks_again seat.told; asked = seat.asked; drops = false }
 
--- for a read, behind which it asks no Write again
+-- for a read, after which it asks no Write again
 abbrev pub begins_read : Seat → Seat
 begins_read seat = record { told = one_place_more seat.told; asked = None; drops = false }
 

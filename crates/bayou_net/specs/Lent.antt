@@ -42,7 +42,7 @@ pub record DeskWrites (begun : Begun) (paid : ℕ) (tag : Tag) (need : List ℕ)
   pub written : IfOk answer (IsWritten begun.server need paid)
   pub pays : Pays paid answer then
 
--- A node serves who has a desk there: what is told of it is how much the desk was paid. Each answer is one that something gives which may be
+-- A node serves who has a desk there: what is reported of it is how much the desk was paid. Each answer is one that something gives which may be
 -- behind the lock.
 abbrev pub desk_steps : Begun → Steps ℕ
 desk_steps begun = record {

@@ -16,7 +16,7 @@ abbrev pub read_reply : Result Seen Behind → Frame
 read_reply (Ok seen) = frames.Seen seen
 read_reply (Err behind) = frames.Refused (refusals.Behind behind.vector)
 
--- of a Write that was made before its first answer is told again
+-- a Write that was made before gets its first answer again
 abbrev pub write_reply : Result Written WriteFault → Frame
 write_reply (Ok (written.New accepted)) = frames.Accepted accepted
 write_reply (Ok (written.Known accepted)) = frames.Accepted accepted

@@ -45,7 +45,7 @@ IsRequest (frames.Reopened adopted) = ⊥
 IsRequest (frames.Item write) = ⊥
 IsRequest (frames.End number) = ⊥
 
--- There was no memory for what is asked for: that is told, and nothing is changed.
+-- There was no memory for what is asked for: that is reported, and nothing is changed.
 abbrev pub IsWanting : {S : Type 0} → S → (reply : List ℕ) → S → Type 0
 IsWanting old reply new = (reply ≡ spelling (frames.Refused refusals.OutOfMemory)) × (new ≡ old)
 

@@ -16,7 +16,7 @@ use bayou_wire::Frame;
 use std::alloc::{AllocError, Global};
 use std::io::Write;
 
-// Items of Writes that stand one behind another, and how many they are.
+// Items of Writes that stand one after another, and how many they are.
 #[derive(Drop)]
 struct Part {
     text: Vec<u8>,
@@ -37,7 +37,7 @@ fn part_at<S: Served>(alloc: Global, served: &mut S, place: u32) -> Result<Part,
     })
 }
 
-// Sends the parts behind so many Writes, whose Items were sent, and tells how many were sent in all.
+// Sends the parts after so many Writes, whose Items were sent, and tells how many were sent in all.
 fn send_behind<S: Served, R, W: Write>(
     alloc: Global,
     served: &mut S,
@@ -64,7 +64,7 @@ fn send_behind<S: Served, R, W: Write>(
     }
 }
 
-/// Sends an Item of each Write held, in order of receipt, and an End of their number. For want of memory for the first of them that is told
+/// Sends an Item of each Write held, in order of receipt, and an End of their number. For want of memory for the first of them that is reported
 /// instead; later on it ends the answer.
 pub(crate) fn answer_dump<S: Served, R, W: Write>(
     alloc: Global,

@@ -18,7 +18,7 @@ use std::sync::Wait;
 pub trait Host {
     type Desk: Drop + Send;
 
-    /// Serves one connection to its end. How it ended is told to whoever is at its other end alone.
+    /// Serves one connection to its end. Only who is at its other end learns how it ended.
     fn serve<T: Wait>(
         &self,
         rt: &T,
@@ -60,8 +60,8 @@ pub fn drop_rest<R: Read, W>(channel: &mut CountedChannel<R, W>)
     }
 }
 
-/// Serves one connection to its end, at a node. How it ended is told to whoever is at its other end alone. Where it ended before what came
-/// did, as at a bad frame, the other end is told that no more replies come, and the rest is dropped: a socket that is closed with bytes
+/// Serves one connection to its end, at a node. Only who is at its other end learns how it ended. Where it ended before what came
+/// did, as at a bad frame, the other end learns that no more replies come, and the rest is dropped: a socket that is closed with bytes
 /// unread would take back replies that are still on their way.
 pub fn serve_connection<D: Device, L: Desks, G: RequestGate, T: Wait>(
     rt: &T,
@@ -71,7 +71,7 @@ pub fn serve_connection<D: Device, L: Desks, G: RequestGate, T: Wait>(
     gate: &G,
     stream: &TcpStream,
 ) -> Desk<L> {
-    // A socket that can't be told so sends small replies later.
+    // A socket that doesn't take this option sends small replies later.
     let _ = stream.set_nodelay(true);
     let mut channel = CountedChannel::new(stream, stream);
     let desk = serve(rt, alloc, node, desk, gate, &mut channel).1;

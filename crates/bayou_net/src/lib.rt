@@ -5,8 +5,8 @@
 //! reply, until the input ends between two frames. [`serve`] does so at a node (`bayou_node`), for whoever has a desk there, and
 //! [`serve_with_leave`] where Writes are made only as long as there is leave, and else refused. By
 //! [`answer_offer`], [`serve_offer`], [`pull`] and [`pull_from`] a node takes part in anti-entropy (`bayou_peer`): its lock is free between two
-//! batches that it sends and between a few Writes that it takes, so that others are served meanwhile; of what it holds no more is told than that it may be behind its lock.
-//! A List or a Became, which only who greeted may ask, is answered by [`lookup_reply`].
+//! batches that it sends and between a few Writes that it takes, so that others are served meanwhile; the clauses
+//! say no more of what it holds than that it may be behind its lock. [`lookup_reply`] answers a List or a Became, which only who greeted may ask.
 //!
 //! Callers owe nothing: strangers may send any bytes, and what is no request ends the connection without a reply. Want of memory is an
 //! answer, or a reply, only where a growth was refused. A program that is asked again under its tag is answered as it was, by the same reply: it

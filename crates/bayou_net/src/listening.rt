@@ -21,7 +21,7 @@ pub struct ListenerEnded<S: Drop> {
     pub connections: usize,
 }
 
-/// Why a listener ended before it was told to.
+/// Why a listener ended before it was asked to.
 #[derive(Clone, Copy, Debug, PartialEq, Eq)]
 pub enum ListenFault {
     /// No connection can be taken from the socket.
@@ -30,7 +30,7 @@ pub enum ListenFault {
     OutOfMemory,
 }
 
-/// A listener that ended before it was told to, once all its connections ended.
+/// A listener that ended before it was asked to, once all its connections ended.
 #[derive(Drop)]
 pub struct ListenerBroken<S: Drop> {
     pub fault: ListenFault,
@@ -67,7 +67,7 @@ fn begin<'s, E, H: Host + Sync, T: Wait + Send + Sync>(
     }
 }
 
-// Takes connections until one comes behind the flag, or no desk is left.
+// Takes connections until one comes after the flag, or no desk is left.
 fn accept_all<'s, E, H: Host + Sync, T: Wait + Send + Sync>(
     scope: &'s Scope<'s, E>,
     rt: &'s T,

@@ -19,7 +19,7 @@ pub fn is_lookup(kind: u8) -> bool
     kind == KIND_LIST || kind == KIND_BECAME
 }
 
-// The bytes of what is told of rows.
+// The bytes of what is reported of rows.
 fn rows_text(alloc: Global, answer: Result<Page, Behind>) -> Result<Vec<u8>, AllocError>
     ensures { IfOk result (λ text. SpellsRows answer text.items) }
 {
@@ -29,7 +29,7 @@ fn rows_text(alloc: Global, answer: Result<Page, Behind>) -> Result<Vec<u8>, All
     }
 }
 
-// The bytes of what is told of what became of a Write.
+// The bytes of what is reported of what became of a Write.
 fn outcome_text(alloc: Global, answer: Result<Told, Behind>) -> Result<Vec<u8>, AllocError>
     ensures { IfOk result (λ text. SpellsOutcome answer text.items) }
 {

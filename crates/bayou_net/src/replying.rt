@@ -65,7 +65,7 @@ pub(crate) fn encoded(alloc: Global, frame: &Frame) -> Result<Vec<u8>, AllocErro
     Ok(text)
 }
 
-/// What is told where there is no memory for what is asked for.
+/// What is reported where there is no memory for what is asked for.
 pub(crate) fn wanting(alloc: Global) -> Result<Vec<u8>, AllocError>
     ensures { IfOk result (λ text. text.items ≡ spelling (frames.Refused refusals.OutOfMemory)) }
 {

@@ -125,7 +125,7 @@ fn serve_piece<S: Served, G: RequestGate, R, W: Write>(
 }
 
 /// Does each request that comes, in its order, and writes its reply, until the input ends between two frames, and tells how many there
-/// were. The gate is passed behind the reading of each request, before it is done. A bad frame, and one that is no request, has no reply,
+/// were. The gate is passed after the reading of each request, before it is done. A bad frame, and one that is no request, has no reply,
 /// and ends this. A fault of the writer may leave a front of a reply.
 pub fn serve_on<S: Served, G: RequestGate, R: Read, W: Write>(
     alloc: Global,

@@ -1,4 +1,4 @@
--- What a server behind its lock answers. Between two calls other threads may have called it, so what stood behind the lock is told by what
+-- What a server behind its lock answers. Between two calls other threads may have called it, so what stood behind the lock is known by what
 -- is true of it whenever the lock is free.
 use Rattle.std.specs.Prelude.{◌≡◌, ℕ, ◌+◌, ◌<◌, ◌≤◌, List, Result, Ok, Err, slice_index}
 use Rattle.bayou_base.specs.declared.answer.Accepted.{Accepted}
@@ -30,7 +30,7 @@ InSome begun IsSo = (core : Core) × MayBeKept begun core × IsSo core
 abbrev pub BySome : Begun → (Core → Core → Type 0) → Type 0
 BySome begun Steps = (old new : Core) × MayBeKept begun old × MayBeKept begun new × Steps old new
 
--- What is told is of a Write of the server's own: it is the next behind all that its server held as it was made, which had all that the
+-- The answer is of a Write of the server's own: it is the next after all that its server held as it was made, which had all that the
 -- session needs (Terry et al. 1994).
 pub record IsOwnAnswer (server : ℕ) (need : List ℕ) (accepted : Accepted) : Type 0 where
   pub own : accepted.wid.origin.index ≡ server
@@ -49,7 +49,7 @@ Pays old (Ok (Known accepted)) new = new ≡ old
 Pays old (Err fault) new = new ≡ old
 
 -- A Write is given to what may be behind the lock (anti-entropy, Petersen et al. 1997). Of what stands beside the node no call changes
--- anything; what is held between two calls isn't told, as others may change it.
+-- anything; what is held between two calls isn't said, as others may change it.
 abbrev pub TakesAtNode : {S : Type 0} → Begun → S → Write → Result Took TakeFault → S → Type 0
 TakesAtNode begun before given answer after = BySome begun (λ old new. Takes old given answer new) × (after ≡ before)
 

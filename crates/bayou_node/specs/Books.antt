@@ -44,7 +44,7 @@ opened server = record { server = server; stored = own_count server.core; accept
 abbrev pub AreNewDesks : ℕ → List ℕ → Type 0
 AreNewDesks number desks = (length desks ≡ number) × All (λ accepted. accepted ≡ 0) desks
 
--- No Write that was held is taken away: those held then are the old ones, in their order, and others behind them.
+-- No Write that was held is taken away: those held then are the old ones, in their order, and others after them.
 abbrev pub StillHolds : Core → Core → Type 0
 StillHolds old new = (more : List Write) × (new.held ≡ old.held ++ more)
 

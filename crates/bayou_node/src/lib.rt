@@ -5,7 +5,7 @@
 //! many of the server's own Writes were adopted since. Whenever the lock is free these books are exact: the server is sound, and
 //! its own Writes are those that it began with, those accepted and those adopted, and no others. A [`Desk`] is seen as the number of
 //! Writes that were accepted for it; [`Node::write`] needs one, and pays it where, and only where, it answers with a new Write: one that
-//! was made before and is asked again is told, and not paid again. A [`Ledger`](std::sync::ledger::Ledger) carries this across threads.
+//! was made before and is asked again is answered, and not paid again. A [`Ledger`](std::sync::ledger::Ledger) carries this across threads.
 //!
 //! The steps are those of [`Held`], which are lent the value: each is the server's step, and leaves every Write that was held. Each
 //! call of [`Node`] takes the lock once, and holds none other; so it may wait for the lock. Its clauses say that its answer is one

@@ -1,9 +1,9 @@
-//! What a client keeps of what is final at a store: what it heard of the servers, how far Writes are known to be final, and its own Writes that it
-//! wasn't told of as final yet.
+//! What a client keeps of what is final at a store: what it heard of the servers, how far Writes are known to be final, and its own Writes that
+//! weren't reported as final yet.
 //!
 //! Callers see an [`Outlook`]. They tell it the Writes that servers accepted of theirs ([`Outlook::made`]), have it hear what servers tell
 //! ([`Finality`](bayou_final::Finality)), and ask what is news where a server tells what became of an own Write ([`Outlook::told`]): what is final is news once, and
-//! what is tentative where it isn't what was told before. [`spell_outlook`] gives the text that keeps an outlook, and [`read_outlook`] reads it.
+//! what is tentative where it isn't what was reported before. [`spell_outlook`] gives the text that keeps an outlook, and [`read_outlook`] reads it.
 //!
 //! The crate knows nothing of sockets and files, nor of which server is asked.
 #![tactic(auto)]

@@ -14,13 +14,13 @@ use bayou_lang::RestingWrite;
 use bayou_wire::Became;
 use std::alloc::{AllocError, Global};
 
-/// A Write of the client's own that it wasn't told of as final yet.
+/// A Write of the client's own that wasn't reported as final yet.
 #[derive(Clone, Copy, Debug, PartialEq, Eq)]
 pub struct OwnWrite {
     pub wid: Wid,
     /// The clock of its stamp.
     pub clock: u32,
-    /// What became of it, as it was told last; nothing where it wasn't yet.
+    /// What became of it, as it was reported last; nothing where it wasn't yet.
     pub told: Option<Became>,
 }
 
@@ -32,7 +32,7 @@ pub struct Outlook {
     ghost few: { length own.items ≤ MOST },
 }
 
-// What is news of a Write that became this, by what was told of it last.
+// What is news of a Write that became this, by what was reported of it last.
 fn news_of(is_final: bool, before: Option<Became>, now: Became) -> Option<Standing>
     ensures { IsNews is_final before now result }
 {
@@ -47,7 +47,7 @@ fn news_of(is_final: bool, before: Option<Became>, now: Became) -> Option<Standi
 }
 
 impl Outlook {
-    /// Of a store of so many servers, of which nothing is known yet.
+    /// Of a store of so many servers, before anything is known of them.
     pub fn new(alloc: Global, count: u8) -> Self
         requires { count ≤ NUMBER }
         ensures { (result.finality.count ≡ count) × (result.own.items ≡ []) }

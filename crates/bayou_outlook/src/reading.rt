@@ -44,7 +44,7 @@ fn server_in(word: &str, servers: u8) -> Option<ServerId> {
     }
 }
 
-// What was told of an own Write last; the outer `None` where these are no words for that.
+// What was last reported of an own Write; the outer `None` where these are no words for that.
 fn told_in(words: &str) -> Option<Option<Became>> {
     match words {
         "untold" => Some(None),
@@ -57,7 +57,7 @@ fn told_in(words: &str) -> Option<Option<Became>> {
     }
 }
 
-// An own Write: its name, its clock, and what was told of it.
+// An own Write: its name, its clock, and what was reported of it.
 fn own_in(words: &str, servers: u8) -> Option<OwnWrite> {
     let (name, words) = words.split_once(' ')?;
     let (clock, told) = words.split_once(' ')?;

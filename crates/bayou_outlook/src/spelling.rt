@@ -62,7 +62,7 @@ fn put_views(text: &mut String, outlook: &Outlook) -> Result<(), AllocError> {
     Ok(())
 }
 
-// Puts an own Write, and what was told of it last.
+// Puts an own Write, and what was reported of it last.
 fn put_own(text: &mut String, write: &OwnWrite) -> Result<(), AllocError> {
     let (origin, seq, clock) = (write.wid.origin.index, write.wid.seq, write.clock);
     write!(text, "{OWN}{origin}:{seq} {clock} ")?;

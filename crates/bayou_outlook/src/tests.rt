@@ -39,7 +39,7 @@ fn hear(rt: &impl Abort, outlook: &mut Outlook, index: u8, first: [u32; 3]) {
     outlook.hear(server(rt, index), &view);
 }
 
-// Server 1 accepted a Write of ours, of which this was told.
+// Server 1 accepted a Write of ours, and reported this of it.
 fn make(rt: &impl Abort, outlook: &mut Outlook, seq: u32, told: Option<Became>) {
     let gone = outlook.made(made(rt, 1, seq, told)).expect(rt, "memory");
     assert!(rt; gone.is_none());

@@ -14,7 +14,7 @@ use Rattle.bayou_wire.specs.Stream.{IsFaulty, IsPartial}
 abbrev pub all_but : (server own : ℕ) → List ℕ
 all_but server own = slice_set (replicate SERVERS MAX_WRITES) server own
 
--- a Write of this server behind its first `own`
+-- a Write of this server after its first `own`
 abbrev pub IsBeyond : (server own : ℕ) → Write → Type 0
 IsBeyond server own write = (write.wid.origin.index ≡ server) × (own < write.wid.seq)
 

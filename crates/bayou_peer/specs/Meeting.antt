@@ -37,7 +37,7 @@ pub record TakesFirst {S : Type 0} (ways : Ways S) (writes : List Write) (start 
   pub held : had ≡ hads tooks
 
 -- How a pull ends early that is sent these Writes in memory, one after another, and what it leaves: all that came were taken, and their End was cut
--- off; or one of them was refused; or memory ended it behind some that were taken.
+-- off; or one of them was refused; or memory ended it after some that were taken.
 abbrev pub MeetsStopped : {S : Type 0} → Ways S → (sent : List Write) → (cut : Option ℕ) → (start : S) → (before : Pulled) → PullFault → (now : S) → Type 0
 MeetsStopped {S} ways sent cut start before (Refused refusal) now =
     (mid : S) × (write : Write) × (left : List Write)

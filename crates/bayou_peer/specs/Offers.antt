@@ -19,7 +19,7 @@ pub record Sends (spelled : List Write → List ℕ) (writes : List Write) (befo
   pub number : IfOk result (λ number. number ≡ length writes)
   pub each : OnOk result (AllByRecursion IsWrite writes)
 
--- An Item of each of some Writes was sent, and one End of their number: of those that are lacking, where it is told which Writes are held.
+-- An Item of each of some Writes was sent, and one End of their number: of those that are lacking, where it is known which Writes are held.
 abbrev pub Answers : Option (List Write) → List ℕ → (before after : Option (List ℕ)) → Result ℕ ChannelFault → Type 0
 Answers list counts before after result =
     (writes : List Write) × IfSome list (λ held. writes ≡ lacking_of counts held) × Sends answer_bytes writes before after result

@@ -26,7 +26,7 @@ pub record Ways (S : Type 0) : Type 1 where
   pub takes : S → Write → Result Took TakeFault → S → Type 0
 
 -- What was read so far begins with the Items of these Writes, each of which was taken, and then there is a rest. What is held are the
--- Writes held before, and behind them the Items that were new, in their order.
+-- Writes held before, and after them the Items that were new, in their order.
 pub record Received {S : Type 0} (ways : Ways S) (start now : S) (read rest : List ℕ) (taken had : ℕ) : Type 0 where
   pub writes : List Write
   pub tooks : List Took
@@ -38,7 +38,7 @@ pub record Received {S : Type 0} (ways : Ways S) (start now : S) (read rest : Li
   pub held : had ≡ hads tooks
   pub number : taken + had ≡ length writes
 
--- a frame that has no place behind so many Items: no Item, and no End of their number
+-- a frame that has no place after so many Items: no Item, and no End of their number
 abbrev pub HasNoPlace : ℕ → Frame → Type 0
 HasNoPlace number (Item write) = ⊥
 HasNoPlace number (End count) = count ≢ number
@@ -62,11 +62,11 @@ IsBad number bytes =
 abbrev pub nothing_pulled : Pulled
 nothing_pulled = record { taken = 0; had = 0 }
 
--- each whole Item that was read was taken, and less than a frame is behind them
+-- each whole Item that was read was taken, and less than a frame is after them
 abbrev pub Stands : {S : Type 0} → Ways S → S → S → List ℕ → Pulled → Type 0
 Stands ways start now read before = (rest : List ℕ) × IsPartial rest × Received ways start now read rest before.taken before.had
 
--- How a pull ends early that reads these bytes, behind so many Writes that came, with a Write of this name refused, or none; and where this says whether
+-- How a pull ends early that reads these bytes, after so many Writes that came, with a Write of this name refused, or none; and where this says whether
 -- the input has ended.
 abbrev pub PullStops : {S : Type 0} → Ways S → (start now : S) → (read : List ℕ) → (is_end : Type 0) → (before : Pulled) → (refused : Option Wid) → PullFault → Type 0
 PullStops {S} ways start now read is_end before refused (Refused fault) =
@@ -85,7 +85,7 @@ PullStops ways start now read is_end before refused (Stream faults.Write) = (rea
 
 -- How a pull ends that reads these bytes.
 abbrev pub PullEnds : {S : Type 0} → Ways S → (start now : S) → (read : List ℕ) → (is_end : Type 0) → Result Pulled PullStopped → Type 0
--- what was read behind the End is dropped
+-- what was read after the End is dropped
 PullEnds ways start now read is_end (Ok pulled) =
     (behind : List ℕ) × Received ways start now read (spelling (End (pulled.taken + pulled.had)) ++ behind) pulled.taken pulled.had
 PullEnds ways start now read is_end (Err stopped) = PullStops ways start now read is_end stopped.before stopped.refused stopped.fault

@@ -5,7 +5,7 @@ use Rattle.bayou_server.specs.declared.answer.Took.{Took}
 use Rattle.bayou_server.specs.declared.answer.Took.TheVariants.{New, Had}
 use Rattle.bayou_server.specs.declared.fault.TakeFault.{TakeFault}
 
--- A Write that is given to what holds these, the answer, and what is held then: one that is new is held behind the others, and nothing
+-- A Write that is given to what holds these, the answer, and what is held then: one that is new is held after the others, and nothing
 -- else changes what is held.
 abbrev pub ListsTaken : List Write → Write → Result Took TakeFault → List Write → Type 0
 ListsTaken held given (Ok New) after = All (λ write. write.wid ≢ given.wid) held × (after ≡ held ++ given ∷ [])

@@ -60,7 +60,7 @@ pub fn answer_offer_on<P: Replica, R, W: Write>(
     Ok(number)
 }
 
-/// Reads one Offer, and answers it as [`answer_offer_on`] does. What came behind the Offer in the same piece is dropped.
+/// Reads one Offer, and answers it as [`answer_offer_on`] does. What came after the Offer in the same piece is dropped.
 pub fn serve_offer_on<P: Replica, R: Read, W: Write>(
     alloc: Global,
     replica: &mut P,

@@ -32,7 +32,7 @@ pub fn all_but_own(id: ServerId, own: u32) -> Option<Vector>
     Vector::from_counts(counts)
 }
 
-// Whether the Write of this name is one of this server behind its first `own`.
+// Whether the Write of this name is one of this server after its first `own`.
 fn is_beyond(wid: Wid, id: ServerId, own: u32) -> bool
     ensures { IsTrue result ↔ ((wid.origin.index ≡ id.index) × (own < wid.seq)) }
 {
@@ -69,7 +69,7 @@ fn look<R: Read, W>(
     tells_loss(&frame, id, own)
 }
 
-/// Whether the other end has a Write of this server behind its first `own`, which the server then lost. It sends an Offer of all Writes but
+/// Whether the other end has a Write of this server after its first `own`, which the server then lost. It sends an Offer of all Writes but
 /// those, and looks at the first frame that comes: nothing is taken. Where the answer is none, it isn't known.
 pub fn has_lost<R: Read, W: Write>(
     alloc: Global,
@@ -94,7 +94,7 @@ pub fn has_lost<R: Read, W: Write>(
 }
 
 /// What such an Offer asks of a server that holds these Writes is each Write of the first server that it lacks, and no other. So the first
-/// frame of an honest answer tells whether there is one, and no honest answer is told as none.
+/// frame of an honest answer tells whether there is one, and no honest answer is reported as none.
 pub fn what_is_asked_for_is_own()
     ensures own { (server own : ℕ) (held : List Written) → server < NUMBER → All (IsBeyond server own) (lacking_of (all_but server own) held) }
     ensures each { (server own : ℕ) (held : List Written) (write : Written) → server < NUMBER → Contains held write → IsBeyond server own write

@@ -91,14 +91,14 @@ impl Stop {
     }
 }
 
-// Frames that came: the Writes of the Items that stand in front, and the frame behind them, if one came.
+// Frames that came: the Writes of the Items that stand in front, and the frame after them, if one came.
 #[derive(Drop)]
 struct Front {
     items: Vec<RestingWrite>,
     next: Option<Frame>,
 }
 
-// What bytes gave: the front of their frames, and whether what is behind all of these has a fault.
+// What bytes gave: the front of their frames, and whether what comes after all of these has a fault.
 #[derive(Drop)]
 struct Gathered {
     front: Front,
@@ -123,7 +123,7 @@ fn front_of(alloc: Global, frames: Vec<Frame>) -> Result<Front, AllocError>
 }
 
 impl Front {
-    // The same of these frames, and more behind them.
+    // The same of these frames, and more after them.
     fn with(self, alloc: Global, more: Vec<Frame>) -> Result<Front, AllocError>
         requires { IsNoItem self.next }
         ensures other { IfOk result (λ front. IsNoItem front.next) }
@@ -152,7 +152,7 @@ fn take_end(count: u32, pulled: &Pulled) -> Result<bool, ChannelFault>
     Ok(true)
 }
 
-// Takes a frame behind the Items: an End of their number ends the pull. No other frame has a place there.
+// Takes a frame after the Items: an End of their number ends the pull. No other frame has a place there.
 fn take_other(frame: &Frame, pulled: &Pulled) -> Result<bool, ChannelFault>
     requires other { (write : Written) → frame.now ≢ Item write }
     requires few { pulled.now.taken + pulled.now.had < 2 ^ 32 }

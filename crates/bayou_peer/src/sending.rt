@@ -18,7 +18,7 @@ use bayou_wire::encode_item;
 use std::alloc::{AllocError, Global};
 use std::io::Write;
 
-/// The Items of the Writes, one behind another.
+/// The Items of the Writes, one after another.
 pub fn gather(alloc: Global, batch: &[RestingWrite]) -> Result<Vec<u8>, AllocError>
     ensures spelled { IfOk result (λ text. text.items ≡ item_bytes batch.now) }
     ensures each { IfOk result (λ _. AllByRecursion IsWrite batch.now) }

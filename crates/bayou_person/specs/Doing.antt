@@ -30,7 +30,7 @@ pub record Adds (key : List ℕ) (number : ℤ) (program : Program) : Type 0 whe
 abbrev pub IsTaken : Database → List ℕ → Type 0
 IsTaken database key = IsSome (value_at database key)
 
--- Of the key and the others behind it the first that is absent has the value then, and nothing else changes: the update sets the key
+-- Of the key and the others after it the first that is absent has the value then, and nothing else changes: the update sets the key
 -- itself, and the alternative of its number, from 0 on, another. Where none is absent nothing changes.
 pub record Claims (key : List ℕ) (others : List (List ℕ)) (value : Value) (program : Program) : Type 0 where
   pub first : (database : Database) → value_at database key ≡ None → mean program database ≡ (Updated, changed key (Some value) database)

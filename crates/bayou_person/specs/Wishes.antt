@@ -41,7 +41,7 @@ words_of text =
     if nat_lt (position_or_len is_quote text) (length text) then spaced (before_first is_quote text) ++ drop (position_or_len is_quote text) text ∷ []
     else spaced text
 
--- the word reads as this number, an i64: it is its decimal digits, behind a minus where it is below 0
+-- the word reads as this number, an i64: it is its decimal digits, after a minus where it is below 0
 pub record Reads (word : Word) (number : ℤ) : Type 0 where
   pub fits : FitsSigned w64 number
   pub is : word ≡ signed_decimal number
@@ -50,7 +50,7 @@ pub record Reads (word : Word) (number : ℤ) : Type 0 where
 abbrev pub is_point : ℕ → Bool
 is_point byte = byte == 46
 
--- the word looks like a number: digits, with a point among them or none, behind a sign or none
+-- the word looks like a number: digits, with a point among them or none, after a sign or none
 abbrev pub looks_like_number : Word → Bool
 looks_like_number word =
     let digits = without_leading_sign word in
@@ -115,7 +115,7 @@ is_first word =
     is_one_of (codes "put" ∷ codes "add" ∷ codes "del" ∷ codes "claim" ∷ codes "get" ∷ codes "at" ∷ codes "list" ∷ codes "became"
     ∷ codes "servers" ∷ codes "session" ∷ codes "dump" ∷ []) word
 
--- whether so many words may stand behind the first
+-- whether so many words may stand after the first
 abbrev pub takes : Word → ℕ → Bool
 takes first count =
     if is_one_of (codes "put" ∷ codes "add" ∷ []) first then count == 2
@@ -125,7 +125,7 @@ takes first count =
     else if bytes_eq first (codes "list") then nat_le count 1
     else count == 0
 
--- whether a word with so many before it, the first aside, and so many behind it is to be a key
+-- whether a word with so many before it, the first aside, and so many after it is to be a key
 abbrev pub is_key_place : Word → ℕ → ℕ → Bool
 is_key_place first before after =
     if bytes_eq first (codes "claim") then nat_lt 0 after

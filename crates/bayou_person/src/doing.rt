@@ -84,7 +84,7 @@ pub fn add(alloc: Global, key: &Key, number: i64) -> Result<RestingProgram, Allo
     RestingProgram::new(alloc, check, update, merge)
 }
 
-/// The program that sets the first of the keys that is absent to the value: the first is `key`, and the others stand behind it.
+/// The program that sets the first of the keys that is absent to the value: the first is `key`, and the others stand after it.
 pub fn claim(
     alloc: Global,
     key: &Key,

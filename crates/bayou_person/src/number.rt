@@ -32,7 +32,7 @@ pub(crate) fn number_in(word: &str) -> Result<i64, WishFault>
     }
 }
 
-// What stands behind the sign, or all where there is none.
+// What stands after the sign, or all where there is none.
 fn unsigned(word: &str) -> &[u8]
     ensures { result.now ≡ without_leading_sign word.now }
 {
@@ -54,7 +54,7 @@ fn has_digit(bytes: &[u8]) -> bool
     bytes.iter().any(|byte| byte.is_ascii_digit())
 }
 
-// Whether there are digits alone before the first point and behind it.
+// Whether there are digits alone before the first point and after it.
 fn are_digits_around_point(bytes: &[u8]) -> bool
     ensures { result ≡ (list_all is_ascii_digit (before_first is_point bytes.now) && list_all is_ascii_digit (after_first is_point bytes.now)) }
 {

@@ -20,32 +20,32 @@ pub enum Wish {
     Del {
         key: Key,
     },
-    /// To set the first of these keys that is absent to the value: the first is `key`, and the others stand behind it.
+    /// To set the first of these keys that is absent to the value: the first is `key`, and the others stand after it.
     Claim {
         key: Key,
         others: ArrayVec<Key, MAX_ALTERNATIVES>,
         value: Value,
     },
-    /// To read these keys: the first is `key`, and the others stand behind it.
+    /// To read these keys: the first is `key`, and the others stand after it.
     Get {
         key: Key,
         others: ArrayVec<Key, MAX_ALTERNATIVES>,
     },
     /// To ask this server first from here on.
     At(ServerId),
-    /// To be told the whole database.
+    /// To see the whole database.
     List,
-    /// To be told the rows of the database whose keys begin so.
+    /// To see the rows of the database whose keys begin so.
     Rows {
         prefix: Key,
     },
-    /// To be told what became of this Write.
+    /// To learn what became of this Write.
     Became(Wid),
-    /// To be told which servers there are, and what they hold.
+    /// To learn which servers there are, and what they hold.
     Servers,
-    /// To be told what the session read and wrote.
+    /// To learn what the session read and wrote.
     Session,
-    /// To be told the Writes that a server holds.
+    /// To see the Writes that a server holds.
     Dump,
 }
 
@@ -63,7 +63,7 @@ pub enum ValueFault {
     TooLong,
 }
 
-/// Why a line is no wish. The first fault is told: the first word, then how many words there are, then the words from the left.
+/// Why a line is no wish. The first fault is reported: the first word, then how many words there are, then the words from the left.
 #[derive(Clone, Copy, Debug, PartialEq, Eq, Error)]
 pub enum WishFault {
     /// No line begins with its first word, or it has none.

@@ -13,7 +13,7 @@ use Rattle.bayou_text.specs.Spelling.{line_json}
 abbrev pub line_text : Said → List ℕ
 line_text said = compact_text (line_json said) ++ 10 ∷ []
 
--- how many counts of its vector are told, if it has one
+-- how many counts of its vector are given, if it has one
 abbrev pub counts_told : ℕ → What → Option ℕ
 counts_told count (Read key vector) = Some count
 counts_told count (Write wid stamp deps) = Some count

@@ -33,12 +33,12 @@ server_text server servers (Some held) =
 abbrev pub row_text : (key : List ℕ) → Option Value → List ℕ
 row_text key value = key ++ (codes " " ++ (value_text value ++ codes "\n"))
 
--- whether rows are told as they stood at more than one time
+-- whether rows are listed as they stood at more than one time
 abbrev pub mixed_text : Bool → List ℕ
 mixed_text true = codes " mixed"
 mixed_text false = []
 
--- how many keys were told, and what was held then
+-- how many keys were listed, and what was held then
 abbrev pub told_text : (keys : ℕ) → Bool → (servers : ℕ) → (vector : List ℕ) → List ℕ
 told_text keys is_mixed servers vector = decimal keys ++ (mixed_text is_mixed ++ (codes " at " ++ (counts_text servers vector ++ codes "\n")))
 

@@ -7,7 +7,7 @@ use Rattle.bayou_print.specs.declared.fault.RunFault.TheVariants.{Line, Memory, 
 abbrev pub HasEnded : Bool → ℕ → Type 0
 HasEnded has_failed turns_left = (has_failed ≡ true) ⊎ (turns_left ≡ 0)
 
--- the fault of an input is told only where reading has ended so
+-- the fault of an input is reported only where reading has ended so
 abbrev pub EndsReading : Bool → ℕ → RunFault → Type 0
 EndsReading has_failed turns_left (Line number fault) = Unit {0}
 EndsReading has_failed turns_left Memory = Unit {0}
@@ -16,7 +16,7 @@ EndsReading has_failed turns_left Network = Unit {0}
 EndsReading has_failed turns_left Input = HasEnded has_failed turns_left
 EndsReading has_failed turns_left Output = Unit {0}
 
--- the fault of an output is told only where writing has ended so
+-- the fault of an output is reported only where writing has ended so
 abbrev pub EndsWriting : Bool → ℕ → RunFault → Type 0
 EndsWriting has_failed turns_left (Line number fault) = Unit {0}
 EndsWriting has_failed turns_left Memory = Unit {0}

@@ -12,7 +12,7 @@ pub record Stage : Type 0 where
 abbrev pub stage : {W : Type 0} → (W → Option (List ℕ)) → Output W → Waiting → Stage
 stage contents output waiting = record { output = account contents output; waiting = waiting.lines.items }
 
--- The text, but for a missing part at its end, is what was taken or waits, behind what waited before. Where writing failed, the missing
+-- The text, but for a missing part at its end, is what was taken or waits, after what waited before. Where writing failed, the missing
 -- part may begin before the text.
 pub record Gathers (old new : Stage) (text missing : List ℕ) : Type 0 where
   pub taken : List ℕ

@@ -11,7 +11,7 @@ use std::alloc::{AllocError, Global};
 /// What a reopening prints whose server isn't reached.
 pub const REOPEN_AWAY: &str = "reopen refused away\n";
 
-/// What a list prints of which nothing, or not all, came.
+/// What a list prints where nothing, or not all, came.
 pub const LIST_LOST: &str = "list lost\n";
 
 /// The line of an operation for which no server was reached: nothing was sent.
@@ -84,14 +84,14 @@ pub fn row_line(alloc: Global, key: &Key, value: &Option<Value>) -> Result<Strin
     format!(in alloc; "{key} {found}\n")
 }
 
-// That rows are told as they stood at more than one time, where they are.
+// That rows are listed as they stood at more than one time, where they are.
 fn mixed_word(is_mixed: bool) -> &'static str
     ensures { result.now ≡ mixed_text is_mixed }
 {
     if is_mixed { " mixed" } else { "" }
 }
 
-/// The line behind the rows of a list: what their keys begin with, if only such were asked for, how many keys they are, whether they are told as they
+/// The line after the rows of a list: what their keys begin with, if only such were asked for, how many keys they are, whether they are listed as they
 /// stood at more than one time, and what was held then.
 pub fn rows_line(
     alloc: Global,

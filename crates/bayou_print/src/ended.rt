@@ -5,7 +5,7 @@ ghost use Rattle.bayou_print.specs.Fault.{answer_status, ended_status, verdict_s
 use bayou_answers::Answer;
 use bayou_judge::{BadEvidence, Verdict};
 
-/// What the verdicts that were told come to.
+/// What the printed verdicts come to.
 #[derive(Clone, Copy, Debug, PartialEq, Eq)]
 pub enum Ended {
     /// Each verdict was clean, or none was asked for.

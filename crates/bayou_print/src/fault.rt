@@ -52,7 +52,7 @@ impl RunFault {
         }
     }
 
-    /// The line that tells it. It takes no memory, so that want of memory can be told.
+    /// The line that tells it. It takes no memory, so that want of memory can be reported.
     pub fn to_line(self) -> ArrayString<MAX_FAULT_BYTES>
         ensures { IsFaultLine result.bytes }
     {

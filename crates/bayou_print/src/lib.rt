@@ -4,7 +4,7 @@
 //! many lines a text for each part. A [`Printer`] has the line of each part of such an answer. An audit file is spelled by
 //! `bayou_text_writer`, so that what is printed of a book is read again as it was.
 //!
-//! [`write_answer`] and [`write_each`] put such lines behind what waits to be written ([`Waiting`]), which goes to the output (`bayou_streams`)
+//! [`write_answer`] and [`write_each`] put such lines after what waits to be written ([`Waiting`]), which goes to the output (`bayou_streams`)
 //! in pieces: `Gathers` says what was taken and what waits. An output is at fault only where a call of it failed, or no turn was left. A run
 //! ends with what its verdicts came to ([`Ended`]), or with a [`RunFault`]; each has its exit status.
 //!

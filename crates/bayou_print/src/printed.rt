@@ -57,7 +57,7 @@ fn empty_line(alloc: Global) -> Result<String, AllocError>
     String::with_capacity(alloc, LINE_ROOM)
 }
 
-/// Puts what a read found behind the text.
+/// Puts what a read found after the text.
 fn put_found(alloc: Global, text: &mut String, value: &Option<Value>) -> Result<(), AllocError>
     ensures { OnOk result (string_bytes text.new ≡ string_bytes text.old ++ value_text value.now) }
 {

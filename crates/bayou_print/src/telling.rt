@@ -70,7 +70,7 @@ fn write_dumps<W: Write>(
     Ok(())
 }
 
-/// Writes the lines of an audit file behind its first.
+/// Writes the lines of an audit file after its first.
 fn write_evidence<W: Write>(
     alloc: Global,
     count: u8,

@@ -61,7 +61,7 @@ impl Waiting {
         Ok(())
     }
 
-    /// Puts a line, or nothing, behind them.
+    /// Puts a line, or nothing, after them.
     pub fn print<W: Write>(&mut self, output: &mut Output<W>, line: &[u8]) -> Result<(), RunFault>
         requires { IsEmptyOrEndsWith line.now 10 }
         ensures whole { OnOk result (Gathers (stage W.contents output.old self.old) (stage W.contents output.new self.new) line.now []) }

@@ -18,7 +18,7 @@ pub fn write_text<W: Write>(output: &mut Output<W>, text: &[u8]) -> Result<(), R
     ensures clean { OnOk result (output.new.channel.write_failed ≡ true → output.old.channel.write_failed ≡ true) }
     ensures part { TakesFront (account W.contents output.old) (account W.contents output.new) text.now }
     ensures put { IsPut text.now (account W.contents output.old) (account W.contents output.new) output.new.channel.write_failed }
-    // Behind a whole line there are as many turns left as there may be.
+    // After a whole line there are as many turns left as there may be.
     ensures ready { OnOk result (IsEmptyOrEndsWith text.now 10 → output.old.channel.turns_left ≤ output.new.channel.turns_left) }
 {
     match output.write_lines(text) {

@@ -6,16 +6,16 @@ use bayou_base::ServerId;
 use bayou_wire::Form;
 use std::alloc::{AllocError, Global};
 
-/// What is told where the words say nothing that there is.
+/// What is reported where the words say nothing that there is.
 const UNKNOWN: &str = "unknown";
 
-/// The number in front, and what stands behind it.
+/// The number in front, and what stands after it.
 fn number_in(text: &str) -> Option<(u32, &str)> {
     let (number, rest) = text.split_once(' ').unwrap_or((text, ""));
     Some((number.parse::<u32>().ok()?, rest))
 }
 
-/// The server and its limit, and what stands behind them.
+/// The server and its limit, and what stands after them.
 fn place_in(text: &str) -> Option<(Place, &str)> {
     let (number, rest) = number_in(text)?;
     let id = ServerId::new(u8::try_from(number).ok()?)?;

@@ -10,7 +10,7 @@ use bayou_wire::{
 };
 use std::alloc::{AllocError, Global};
 
-/// What is told of bytes that are none.
+/// What is reported of bytes that are none.
 const NONE: &str = "!";
 
 /// The run that a kept session goes on in.
@@ -45,7 +45,7 @@ pub(crate) fn length(alloc: Global, bytes: &[u8]) -> Result<String, AllocError> 
     format!(in alloc; "{:?}", frame_len(bytes))
 }
 
-/// How a stream ends behind its frames: between two, within one, or by a fault.
+/// How a stream ends after its frames: between two, within one, or by a fault.
 fn told_end(alloc: Global, frames: &Frames) -> Result<String, AllocError> {
     match frames.fault() {
         Some(fault) => told_fault(alloc, &fault),

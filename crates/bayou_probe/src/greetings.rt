@@ -1,4 +1,4 @@
-//! Greetings: what their bytes are read as, keys and proofs, digests, and what is told of a stranger.
+//! Greetings: what their bytes are read as, keys and proofs, digests, and what is reported of a stranger.
 use crate::telling::{hex_of, told_fault};
 use bayou_base::{Key, ServerId};
 use bayou_greeting::{
@@ -11,7 +11,7 @@ use std::alloc::{AllocError, Global};
 /// How many bytes the secret of a key has.
 const SECRET_BYTES: usize = 32;
 
-/// What is told of bytes that are none.
+/// What is reported of bytes that are none.
 const NONE: &str = "!";
 
 /// What stands for a key or a greeting that isn't there.
@@ -101,7 +101,7 @@ pub(crate) fn key(alloc: Global, line: &str) -> Result<String, AllocError> {
     }
 }
 
-/// The digest at each count of Writes of these bytes, and what is told of one more.
+/// The digest at each count of Writes of these bytes, and what is reported of one more.
 pub(crate) fn digests(alloc: Global, writes: &[Vec<u8>]) -> Result<String, AllocError> {
     let mut digests = OriginDigests::new(alloc);
     for write in writes {

@@ -12,7 +12,7 @@ use crate::asking::answer;
 use std::io;
 use std::process::ExitCode;
 
-/// The status where the input can't be read or an answer can't be told.
+/// The status where the input can't be read or an answer can't be printed.
 const FAILED: u8 = 3;
 
 fn main(rt: HostRuntime) -> ExitCode {

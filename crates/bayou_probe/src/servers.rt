@@ -19,7 +19,7 @@ pub(crate) struct Place {
     pub(crate) limit: u32,
 }
 
-/// The bodies that an opening finds, each behind its version, how many bytes it drops, and what is left.
+/// The bodies that an opening finds, each after its version, how many bytes it drops, and what is left.
 pub(crate) fn chain(alloc: Global, id: ServerId, bytes: Vec<u8>) -> Result<String, AllocError> {
     match Journal::open(alloc, id, MemoryDevice::with_bytes(bytes, OpenGate)) {
         Ok((journal, found)) => {

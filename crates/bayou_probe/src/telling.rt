@@ -7,7 +7,7 @@ pub(crate) fn hex_of(alloc: Global, bytes: &[u8]) -> Result<String, AllocError> 
     hex::encode(alloc, bytes)
 }
 
-/// The fault behind `!`.
+/// The fault after `!`.
 pub(crate) fn told_fault<T: Debug>(alloc: Global, fault: &T) -> Result<String, AllocError> {
     format!(in alloc; "!{fault:?}")
 }

@@ -17,7 +17,7 @@ use Rattle.bayou_remember.specs.declared.memory.RememberFault.{RememberFault}
 use Rattle.bayou_remember.specs.declared.memory.RememberFault.TheVariants as remembering
 use Rattle.bayou_remember.specs.declared.memory.TheConstants.{KEEPER}
 
--- A memory as its callers see it: its device; the digest that the next entry of its journal stands behind; whether a call of the device has
+-- A memory as its callers see it: its device; the digest that the next entry of its journal stands after; whether a call of the device has
 -- failed; and how many entries there are.
 pub record MemoryState (D : Type 0) : Type 0 where
   pub device : D
@@ -50,7 +50,7 @@ pub record Remembers (run : ℕ) (bodies : List Body) (told : List (Option Askin
 
 -- ---- an opening
 
--- The journal was opened: of each session the last that its bodies keep is told, and each body is an entry.
+-- The journal was opened: of each session the last that its bodies keep is given, and each body is an entry.
 pub record HasRemembered {D : Type 0} (d : Ghosts D) (run : ℕ) (old : D) (new : MemoryState D) (told : List (Option Asking)) : Type 0 where
   pub found : Found
   pub opened : HasOpened d KEEPER old new.device found new.last
@@ -75,7 +75,7 @@ HasNotRemembered d old new remembering.OutOfMemory = (bodies : List Body) × Ope
 
 -- ---- an entry
 
--- the entry of what is kept stands behind all else, and all of it is synced
+-- the entry of what is kept stands after all else, and all of it is synced
 pub record HasKept {D : Type 0} (d : Ghosts D) (old : MemoryState D) (kept : Asking) (new : MemoryState D) : Type 0 where
   pub was_up : old.is_down ≡ false
   pub body : List ℕ
@@ -102,7 +102,7 @@ pub record HasFailedToKeep {D : Type 0} (d : Ghosts D) (old : MemoryState D) (ke
   pub spelled : SpellsKept body kept
   pub left : d.is_modelled → old.is_down ≡ false → FailsToAdd d.may_leave (entry old.last body) (d.content old.device) (d.content new.device)
 
--- how a memory stands behind what was to be kept
+-- how a memory stands after what was to be kept
 abbrev pub Keeps : {D : Type 0} → Ghosts D → (old : MemoryState D) → Asking → Result (Unit {0}) KeepFault → (new : MemoryState D) → Type 0
 Keeps d old kept (Ok done) new = HasKept d old kept new
 Keeps d old kept (Err keeping.Device) new = HasFailedToKeep d old kept new
@@ -115,6 +115,6 @@ Keeps d old kept (Err keeping.OutOfMemory) new = new ≡ old
 abbrev pub AreSpelled : List Body → List Asking → Type 0
 AreSpelled bodies all = AllZip (λ body kept. SpellsKept body.bytes kept) bodies all
 
--- the device has these and nothing else, one behind another, and all of it is synced
+-- the device has these and nothing else, one after another, and all of it is synced
 abbrev pub HasAll : {D : Type 0} → Ghosts D → MemoryState D → List Asking → Type 0
 HasAll d memory all = (bodies : List Body) × AreSpelled bodies all × IsWhole d KEEPER bodies memory.last memory.device

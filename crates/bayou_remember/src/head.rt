@@ -40,7 +40,7 @@ fn asks_of(ryw: u8, mr: u8, wfr: u8, mw: u8) -> Option<Asks>
     })
 }
 
-// Where a Write may be asked again, if anywhere, and the bytes behind that.
+// Where a Write may be asked again, if anywhere, and the bytes after that.
 fn server_of(bytes: &[u8]) -> Option<(Option<ServerId>, &[u8])>
     ensures { MatchOption result ((server : Option Server) (rest : List ℕ) → bytes.now ≢ server_bytes server ++ rest) (λ given. bytes.now ≡ server_bytes given.0 ++ given.1.now) }
 {

@@ -15,8 +15,8 @@ pub fn bytes_keep_one_session()
     ensures { (run : ℕ) (bytes : List ℕ) (one other : Asking) → SpellsKept bytes one → SpellsKept bytes other → in_run run one ≡ in_run run other }
 {}
 
-/// What is kept is remembered: an opening of a device that has these, one behind another, tells of each session the last of them, in its run, and
-/// the device has them then as before. Behind an entry that could not be added it tells the last of those before, or of those and that one.
+/// What is kept is remembered: an opening of a device that has these, one after another, tells of each session the last of them, in its run, and
+/// the device has them then as before. After an entry that could not be added it tells the last of those before, or of those and that one.
 pub fn what_is_kept_is_remembered<D: Device>()
     ensures opened { (run : ℕ) (all : List Asking) (old new : MemoryState D) (told : List (Option Asking)) → D.is_modelled → HasAll D.Device old all
         → HasRemembered D.Device run old.device new told → AreLast (map (in_run run) all) told × HasAll D.Device new all }

@@ -167,7 +167,7 @@ impl<D: Device + Drop> Memory<D> {
         self.entries
     }
 
-    /// Keeps it, behind all else and synced. Behind a call of the device that failed nothing more is kept.
+    /// Keeps it, after all else and synced. After a call of the device that failed nothing more is kept.
     pub fn keep(&mut self, alloc: Global, kept: &Asker) -> Result<(), KeepFault>
         ensures keeps { Keeps D.Device self.old kept.now result self.new }
         ensures ends { OnOk result (EndsWith self.new kept.now) }

@@ -22,7 +22,7 @@ use Rattle.bayou_server.specs.declared.fault.StartFault.{StartFault}
 use Rattle.bayou_server.specs.declared.fault.StartFault.TheVariants as starts
 use Rattle.bayou_wire.specs.Spelling.{write_bytes}
 
--- A start that was refused is told by its own name. Where the device refused a cut, the damage is told in place of the call that failed.
+-- A start that was refused is reported by its own name. Where the device refused a cut, the damage is reported in place of the call that failed.
 abbrev pub unread_as : StartFault → Option Damage → ReadingFault
 unread_as (starts.Journal journals.Device) (Some damage) = Damaged damage
 unread_as (starts.Journal journals.Device) None = Device

@@ -19,7 +19,7 @@ pub enum ReadingFault {
     /// A call of the file failed.
     #[error("a call of the file failed")]
     Device,
-    /// What stands behind the whole entries is more than one that was torn.
+    /// What stands after the whole entries is more than one that was torn.
     #[error("{0}")]
     Damaged(Damage),
     #[error("it is no journal")]
@@ -74,7 +74,7 @@ impl From<AllocError> for RenewFault {
     }
 }
 
-/// What a start that was refused is told as. A device that refused a cut tells the damage.
+/// What a start that was refused is reported as. A device that refused a cut tells the damage.
 pub(crate) fn unread(refused: StartFault, damage: Option<Damage>) -> ReadingFault
     ensures { result ≡ unread_as refused damage }
 {

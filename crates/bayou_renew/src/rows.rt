@@ -50,7 +50,7 @@ fn keep(
     Ok(())
 }
 
-// The first of the rows behind this key, if there is one, as many as are told at once, and whether there are more.
+// The first of the rows after this key, if there is one, as many as are listed at once, and whether there are more.
 fn page_behind<D: Device>(server: &Server<D>, after: Option<&Key>) -> Page
     ensures rows { result.rows.items ≡ take ROWS_AT_ONCE (rows_after [] (option_copied after.entry) (replay server.now.core.held)) }
     ensures more { IsTrue result.more ↔ (ROWS_AT_ONCE < length (rows_after [] (option_copied after.entry) (replay server.now.core.held))) }

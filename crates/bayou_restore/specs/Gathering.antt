@@ -24,7 +24,7 @@ pub record IsGatherable (old : Gathering) (given : Write) : Type 0 where
   pub fits : Fits old.count old.writes given
 
 -- A Write that comes, the answer and what it leaves. The answers stand in their order: each says that those before it don't hold. A Write that is
--- new stands behind the others; every other answer leaves all as it was. There is no server whose own a Write could be, and no device.
+-- new stands after the others; every other answer leaves all as it was. There is no server whose own a Write could be, and no device.
 abbrev pub Gathers : (old : Gathering) → (given : Write) → Result Took TakeFault → (new : Gathering) → Type 0
 Gathers old given (Ok Had) new = Contains old.writes given × (new ≡ old)
 Gathers old given (Err Conflict) new = HasAnother old.writes given × (new ≡ old)

@@ -31,7 +31,7 @@ impl Model for Gathered {
     ghost view = { λ g. gathering_of g.log };
 }
 
-// Keeps the Write, which isn't among those of the log, behind them, if it may stand there.
+// Keeps the Write, which isn't among those of the log, after them, if it may stand there.
 fn keep(log: &mut WriteLog, write: RestingWrite) -> Result<Took, TakeFault>
     requires { IsMissing log.old.receipts write }
     ensures { Gathers (gathering_of log.old) write result (gathering_of log.new) }
@@ -49,7 +49,7 @@ fn keep(log: &mut WriteLog, write: RestingWrite) -> Result<Took, TakeFault>
     Ok(Took::New)
 }
 
-// Keeps the Write, if it may stand behind those of the log and is none of them.
+// Keeps the Write, if it may stand after those of the log and is none of them.
 fn gather(log: &mut WriteLog, write: RestingWrite) -> Result<Took, TakeFault>
     ensures { Gathers (gathering_of log.old) write result (gathering_of log.new) }
 {

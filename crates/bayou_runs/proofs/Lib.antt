@@ -1,7 +1,11 @@
 pub mod Lists
 pub mod Orders
+pub mod Safe
 pub mod Operating
+pub mod Beginning
+pub mod Silent
 pub mod Replying
 pub mod Pulling
 pub mod Turning
+pub mod Plain
 pub mod Running

@@ -78,3 +78,8 @@ get-append_left (first ∷ xs) ys (suc at) x got = get-append_left xs ys at x go
 pub get-append_here : {X : Type 0} (xs ys : List X) (x : X) → slice_get (xs ++ x ∷ ys) (length xs) ≡ Some x
 get-append_here [] ys x = refl
 get-append_here (first ∷ xs) ys x = get-append_here xs ys x
+
+-- a list that has one isn't empty
+pub none_behind : {X : Type 0} {Y : Type 0} (xs ys : List X) (x : X) → [] ≡ xs ++ x ∷ ys → Y
+none_behind [] ys x same = absurd (cc)
+none_behind (first ∷ xs) ys x same = absurd (cc)

@@ -10,32 +10,31 @@ use Rattle.bayou_base.specs.declared.limits.TheConstants.{MAX_WRITES, SESSIONS}
 use Rattle.bayou_base.specs.declared.server.ServerId.{ServerId}
 use Rattle.bayou_base.specs.declared.session.SessionId.{SessionId}
 use Rattle.bayou_lang.specs.Laws.Equality.{server-ext}
-use Rattle.bayou_server.specs.Server.{Core, IsSoundServer}
+use Rattle.bayou_server.specs.Server.{Core}
 use Rattle.bayou_text.specs.Said.{Said}
 use Rattle.bayou_script.specs.Capacity.{operations}
 use Rattle.bayou_script.specs.Script.{Plan, is_open, opens}
 use Rattle.bayou_answers.specs.declared.answer.Answer.{Answer}
 use Rattle.bayou_answers.specs.declared.answer.Answer.TheVariants.{Lost}
 use Rattle.bayou_machine.specs.declared.script_server.ScriptServer.{ScriptServer}
-use Rattle.bayou_machine.specs.declared.script_server.ScriptServer.TheVariants.{Running}
 use Rattle.bayou_machine.specs.Filed.{Files}
 use Rattle.bayou_machine.specs.Laws.Runs.{operations-first}
 use Rattle.bayou_machine.specs.Run.{ScriptState}
-use Rattle.bayou_machine.specs.ScriptServer.{Serving}
 use Rattle.bayou_machine.specs.Seats.{Seat, new_seat}
 use Rattle.bayou_machine.specs.Standing.{Standing, StandsAt, nothing_asked, seat_of, with_server, with_session}
 use Rattle.bayou_world.specs.declared.event.Event.{Event}
 use Rattle.bayou_world.specs.declared.event.Event.TheVariants as events
 use Rattle.bayou_world.specs.declared.reply.Reply.{Reply}
 use Rattle.bayou_world.specs.declared.reply.Reply.TheVariants as replies
-use Rattle.bayou_world.specs.Machine.{Answered, Asking, Machine, ServerSets, SessionSets, changed}
+use Rattle.bayou_world.specs.Machine.{Answered, Asking, Machine, SessionSets, changed}
 use Rattle.bayou_world.specs.Never.{core_at}
 use Rattle.bayou_world.specs.Rows.{IsAnsweredAt}
 use Rattle.bayou_world.specs.Runs.{Run}
 use Rattle.bayou_world.specs.Steps.{DeliverStep, FileStep, LoseStep, Step, heard, landed, served_by, told}
-use Rattle.bayou_runs.specs.Inner.Tie.{IsAt, IsRunningAt, IsSeatOf, IsSeated, IsTelling}
-use Rattle.bayou_runs.specs.Lines.{Ends}
+use Rattle.bayou_runs.specs.Inner.Tie.{IsAt, IsBeside, IsSeatOf, IsSeated, IsTelling}
+use Rattle.bayou_runs.specs.Lines.{Ends, has_lost}
 use Rattle.bayou_runs.proofs.Lists.{changed-other, changed-same, get-set_other, get-set_same, get_within, index-set_other, index-set_same, length-set_it, same_number, some_of}
+use Rattle.bayou_runs.proofs.Safe.{beside_on, beside_still}
 
 -- a session is its index
 pub session-ext : (a b : SessionId) → a.index ≡ b.index → a ≡ b
@@ -68,7 +67,7 @@ run_append old mid new (event ∷ events) (reply ∷ replies) more others (next,
 -- ---- what stays
 
 -- all but this session and this server is as it was
-pub record IsBeside (old : Machine) (who place : ℕ) (new : Machine) : Type 0 where
+pub record IsApart (old : Machine) (who place : ℕ) (new : Machine) : Type 0 where
   pub count : new.count ≡ old.count
   pub limit : new.limit ≡ old.limit
   pub capacity : new.capacity ≡ old.capacity
@@ -76,21 +75,6 @@ pub record IsBeside (old : Machine) (who place : ℕ) (new : Machine) : Type 0 w
   pub sessions : (other : ℕ) → other ≢ who → new.sessions other ≡ old.sessions other
   pub offers : new.offers ≡ old.offers
   pub items : new.items ≡ old.items
-
-abbrev core_with : (place count limit : ℕ) → ServerSets → Core
-core_with place count limit server = core_at (record { count = count; limit = limit; capacity = 0; servers = λ _. server; sessions = λ _. None; offers = []; items = []; served = []; filed = [] }) place
-
--- a server that is the same stands as before
-pub runs_still : (old new : Machine) (place : ℕ) (replica : ScriptServer) → new.count ≡ old.count → new.limit ≡ old.limit → new.servers place ≡ old.servers place
-    → IsRunningAt old place replica → IsRunningAt new place replica
-runs_still old new place replica count limit server is = record {
-  server = is.server;
-  is = is.is;
-  core_is = is.core_is ∙ sym (ap (λ n. core_with place n new.limit (new.servers place)) count
-      ∙ ap (λ n. core_with place old.count n (new.servers place)) limit ∙ ap (core_with place old.count old.limit) server);
-  sound = is.sound;
-  runs = ap (λ (s : ServerSets). s.stopped) server ∙ is.runs;
-}
 
 -- The script's session and its server are other ones, and nothing else.
 pub record IsMoved (old : Standing) (who : SessionId) (place : ℕ) (after : ScriptServer) (now : Seat) (new : Standing) : Type 0 where
@@ -117,8 +101,9 @@ pub record StandsAgain (plan : Plan) (front others : List Said) (said : Said) (s
   pub count : last.count ≡ old.count
   pub limit : last.limit ≡ old.limit
   pub count_is : new.standing.count ≡ state.standing.count
+  pub limit_is : new.standing.limit ≡ state.standing.limit
   pub servers : length new.standing.servers ≡ length state.standing.servers
-  pub each : (place : ℕ) (replica : ScriptServer) → StandsAt new.standing place replica → IsRunningAt last place replica
+  pub each : (place : ℕ) (replica : ScriptServer) → StandsAt new.standing place replica → IsBeside (has_lost place (front ++ said ∷ [])) last place replica
   pub sessions : length new.standing.sessions ≡ length state.standing.sessions
   pub seats : (who : SessionId) → is_open who.index front ≡ true → IsSeated last who.index (seat_of new.standing who)
   pub closed : (who : ℕ) → is_open who front ≡ false → last.sessions who ≡ old.sessions who
@@ -140,6 +125,7 @@ stands_again plan front said others state new old last at is =
       count = is.count ∙ at.count;
       limit = is.limit ∙ at.limit;
       count_is = is.count_is ∙ at.count_is;
+      limit_is = is.limit_is ∙ at.limit_is;
       one_each = is.servers ∙ at.one_each;
       each = is.each;
       one_seat_each = is.sessions ∙ at.one_seat_each;
@@ -154,14 +140,14 @@ stands_again plan front said others state new old last at is =
     }
 
 -- where a server is another one
-pub server_set : (standing : Standing) (place : ℕ) (after : ScriptServer) (last : Machine) → place < length standing.servers → IsRunningAt last place after
-    → ((other : ℕ) (replica : ScriptServer) → other ≢ place → StandsAt standing other replica → IsRunningAt last other replica)
-    → (other : ℕ) (replica : ScriptServer) → slice_get (slice_set standing.servers place after) other ≡ Some replica → IsRunningAt last other replica
-server_set standing place after last within runs others other replica is = elim (same_number other place) as (λ _. IsRunningAt last other replica) [
+pub server_set : (lost : ℕ → Bool) (standing : Standing) (place : ℕ) (after : ScriptServer) (last : Machine) → place < length standing.servers → IsBeside (lost place) last place after
+    → ((other : ℕ) (replica : ScriptServer) → other ≢ place → StandsAt standing other replica → IsBeside (lost other) last other replica)
+    → (other : ℕ) (replica : ScriptServer) → slice_get (slice_set standing.servers place after) other ≡ Some replica → IsBeside (lost other) last other replica
+server_set lost standing place after last within beside others other replica is = elim (same_number other place) as (λ _. IsBeside (lost other) last other replica) [
   | inl same ↦
       let here : slice_get (slice_set standing.servers place after) place ≡ Some replica = subst (λ n. slice_get (slice_set standing.servers place after) n ≡ Some replica) same is in
       let one : after ≡ replica = some_of after replica (sym (get-set_same standing.servers place after within) ∙ here) in
-      subst (λ n. IsRunningAt last n replica) (sym same) (subst (IsRunningAt last place) one runs)
+      subst (λ n. IsBeside (lost n) last n replica) (sym same) (subst (IsBeside (lost place) last place) one beside)
   | inr differs ↦ others other replica differs (sym (get-set_other standing.servers place after other differs) ∙ is)
 ]
 
@@ -182,10 +168,10 @@ module _ (plan : Plan) where
   -- the script's line is one of a session at a server, and so did the machine
   pub moved : (front : List Said) (said : Said) (others : List Said) (state new : ScriptState) (old last : Machine) → IsAt plan front (said ∷ others) state old → OpensNone said
       → (events : List Event) (replies : List Reply) → Run old events replies last → (who : SessionId) (place : ℕ) (before after : ScriptServer) (now : Seat) → StandsAt state.standing place before
-      → is_open who.index front ≡ true → IsBeside old who.index place last → IsRunningAt last place after → IsSeated last who.index now
+      → is_open who.index front ≡ true → IsApart old who.index place last → IsBeside (has_lost place front) last place after → IsSeated last who.index now
       → new.standing ≡ with_session (with_server state.standing place after) who now → new.book.entries ≡ last.filed → length last.filed + operations others ≤ last.capacity
       → IsAt plan (front ++ said ∷ []) others new last
-  moved front said others state new old last at opens_none events replies run who place before after now stands opened_there beside runs seated only entries room =
+  moved front said others state new old last at opens_none events replies run who place before after now stands opened_there apart beside seated only entries room =
       let within : place < length state.standing.servers = get_within state.standing.servers place before stands in
       let servers : new.standing.servers ≡ slice_set state.standing.servers place after = ap (λ (s : Standing). s.servers) only in
       let sessions : new.standing.sessions ≡ slice_set state.standing.sessions who.index now = ap (λ (s : Standing). s.sessions) only in
@@ -194,24 +180,26 @@ module _ (plan : Plan) where
         events = events;
         replies = replies;
         run = run;
-        count = beside.count;
-        limit = beside.limit;
+        count = apart.count;
+        limit = apart.limit;
         count_is = ap (λ (s : Standing). s.count) only;
+        limit_is = ap (λ (s : Standing). s.limit) only;
         servers = ap (λ (list : List ScriptServer). length list) servers ∙ length-set_it state.standing.servers place after;
-        each = λ other replica is. server_set state.standing place after last within runs
-            (λ one found differs stood. runs_still old last one found beside.count beside.limit (beside.servers one differs) (at.each one found stood))
+        each = λ other replica is. server_set (λ n. has_lost n (front ++ said ∷ [])) state.standing place after last within (beside_on front said last place after beside)
+            (λ one found differs stood. beside_on front said last one found
+            (beside_still (has_lost one front) old last one found apart.count apart.limit (apart.servers one differs) (at.each one found stood)))
             other replica (subst (λ (list : List ScriptServer). slice_get list other ≡ Some replica) servers is);
         sessions = ap (λ (list : List Seat). length list) sessions ∙ length-set_it state.standing.sessions who.index now;
         seats = λ other is.
             subst (λ (list : List Seat). IsSeated last other.index (slice_index_or list other.index (new_seat other nothing_asked))) (sym sessions)
             (seat_set state.standing who now last at.one_seat_each seated other (λ differs.
-            let was = at.opened other is in record { session = was.session; there = beside.sessions other.index differs ∙ was.there; is = was.is }));
-        closed = λ other none. beside.sessions other (λ same. let both : true ≡ false = sym opened_there ∙ (ap (λ n. is_open n front) (sym same) ∙ none) in absurd (cc));
+            let was = at.opened other is in record { session = was.session; there = apart.sessions other.index differs ∙ was.there; is = was.is }));
+        closed = λ other none. apart.sessions other (λ same. let both : true ≡ false = sym opened_there ∙ (ap (λ n. is_open n front) (sym same) ∙ none) in absurd (cc));
         entries = entries;
         room = room;
-        offer = ap (λ list. slice_get list 0) beside.offers;
-        offers_few = omega (arith, ap length beside.offers);
-        items_few = omega (arith, ap length beside.items);
+        offer = ap (λ list. slice_get list 0) apart.offers;
+        offers_few = omega (arith, ap length apart.offers);
+        items_few = omega (arith, ap length apart.items);
       })
 
 -- ---- what becomes of the reply
@@ -233,10 +221,7 @@ pub record IsOperation (front others : List Said) (said : Said) (state new : Scr
   pub reply : Reply
   pub step : Step old event reply next
   pub answered : IsAnsweredAt old who.index place session asked what core next
-  pub server : Serving
-  pub is : after ≡ Running server
-  pub core_is : server.core ≡ core
-  pub sound : IsSoundServer server.core
+  pub beside : (last : Machine) → core ≡ core_at last place → (last.servers place).stopped ≡ false → IsBeside (has_lost place front) last place after
   pub telling : IsTelling who.index begun_seat (flying_of session asked answered.answered)
 
 -- the operation is told so, and script and machine stand alike behind it
@@ -292,7 +277,7 @@ module _ (plan : Plan) (front others : List Said) (said : Said) (state new : Scr
               offers = ans.only.offers;
               items = ans.only.items;
             })
-            (record { server = did.server; is = did.is; core_is = did.core_is ∙ ans.core_is; sound = did.sound; runs = ans.runs })
+            (did.beside last ans.core_is ans.runs)
             (record {
               session = landed flying;
               there = changed-same next.sessions who.index (Some (landed flying));
@@ -342,7 +327,7 @@ module _ (plan : Plan) (front others : List Said) (said : Said) (state new : Scr
               offers = ans.only.offers;
               items = ans.only.items;
             })
-            (record { server = did.server; is = did.is; core_is = did.core_is ∙ ans.core_is; sound = did.sound; runs = ans.runs })
+            (did.beside last ans.core_is ans.runs)
             (record {
               session = done;
               there = changed-same mid.sessions who.index (Some done);

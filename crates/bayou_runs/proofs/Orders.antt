@@ -9,12 +9,9 @@ use Rattle.bayou_text.specs.Said.{Said, servers, session, write, read, again, dr
 use Rattle.bayou_script.specs.Order.{InOrderBy}
 use Rattle.bayou_script.specs.Script.{has_place, is_open, opens, script_order}
 use Rattle.bayou_runs.specs.Runs.{asks_in, asks_said, first_of}
+use Rattle.bayou_runs.proofs.Lists.{none_behind}
 
 -- ---- the last of a list
-
-none_behind : {X : Type 0} {Y : Type 0} (xs ys : List X) (x : X) → [] ≡ xs ++ x ∷ ys → Y
-none_behind [] ys x same = absurd (cc)
-none_behind (first ∷ xs) ys x same = absurd (cc)
 
 head_of : {X : Type 0} (x y : X) (xs ys : List X) → x ∷ xs ≡ y ∷ ys → x ≡ y
 head_of x y xs ys same = let one : x ≡ y = cc in one

@@ -29,10 +29,11 @@ use Rattle.bayou_world.specs.Machine.{Machine, Made, Offered, ServerSets, with_s
 use Rattle.bayou_world.specs.Never.{core_at}
 use Rattle.bayou_world.specs.Runs.{Run}
 use Rattle.bayou_world.specs.Steps.{IsRunning, TakeStep, with_doubt, with_write}
-use Rattle.bayou_runs.specs.Inner.Tie.{AreRows}
+use Rattle.bayou_runs.specs.Inner.Tie.{AreRows, IsSafe, StayHonest}
 use Rattle.bayou_runs.specs.Lines.{EndsBy, IsEnd, takes, tells_took}
 use Rattle.bayou_runs.proofs.Lists.{changed-other, changed-same, get-append_here}
 use Rattle.bayou_runs.proofs.Operating.{run_append}
+use Rattle.bayou_runs.proofs.Safe.{safe_taken}
 
 -- all but this server is as it was, and it runs as it did
 pub record IsServerOnly (old : Machine) (place : ℕ) (new : Machine) : Type 0 where
@@ -46,7 +47,7 @@ pub record IsServerOnly (old : Machine) (place : ℕ) (new : Machine) : Type 0 w
   pub items : new.items ≡ old.items
   pub filed : new.filed ≡ old.filed
 
-only_same : (old new : Machine) (place : ℕ) → new ≡ old → IsServerOnly old place new
+pub only_same : (old new : Machine) (place : ℕ) → new ≡ old → IsServerOnly old place new
 only_same old new place same = subst (IsServerOnly old place) (sym same) (record {
   count = refl;
   limit = refl;
@@ -110,13 +111,13 @@ pub record AreItems (machine : Machine) (first : ℕ) (list : List Made) : Type 
   pub at : first ≡ length before
 
 -- what taking items leaves of the server and of the machine
-pub record AreTaken (old : Machine) (place : ServerId) (first : ℕ) (told : List (Result Took TakeFault)) (server : Serving) (last : Machine) : Type 0 where
+pub record AreTaken (lost : Bool) (old : Machine) (place : ServerId) (first : ℕ) (told : List (Result Took TakeFault)) (server : Serving) (last : Machine) : Type 0 where
   pub run : Run old (takes place first (length told)) (map tells_took told) last
   pub only : IsServerOnly old place.index last
   pub core_is : server.core ≡ core_at last place.index
-  pub sound : IsSoundServer server.core
+  pub safe : IsSafe lost server
 
-module _ (first_one : Machine) (have : (events : List Event) (replies : List Reply) (last : Machine) → Run first_one events replies last → AreRows last) where
+module _ (laws : StayHonest) (lost : Bool) (first_one : Machine) (have : (events : List Event) (replies : List Reply) (last : Machine) → Run first_one events replies last → AreRows last) where
   -- one item is given
   take_one : (events : List Event) (replies : List Reply) (old : Machine) → Run first_one events replies old → (place : ServerId) (at : ℕ) (made : Made) → IsRunning old place.index → slice_get old.items at ≡ Some made
       → (server now : Serving) → server.core ≡ core_at old place.index → (answer : Result Took TakeFault) → TakesAt memory_device server made.write answer now
@@ -131,23 +132,23 @@ module _ (first_one : Machine) (have : (events : List Event) (replies : List Rep
 
   -- each of these items was taken, one after another
   take_each : (events : List Event) (replies : List Reply) (old : Machine) → Run first_one events replies old → (place : ServerId) (first : ℕ) (list : List Made) → IsRunning old place.index → AreItems old first list
-      → (server now : Serving) → server.core ≡ core_at old place.index → IsSoundServer server.core → (given : List Write) (rest : List Write) (tooks : List Took) → writes list ≡ given ++ rest
+      → (server now : Serving) → server.core ≡ core_at old place.index → IsSafe lost server → (given : List Write) (rest : List Write) (tooks : List Took) → writes list ≡ given ++ rest
       → TakesEach (TakesAt memory_device) server given tooks now
-      → (last : Machine) × AreTaken old place first (oks tooks) now last × ((more : List Made) × AreItems last (first + length tooks) more × (writes more ≡ rest))
-  take_each events replies old run place first list running items server now core sound [] rest [] split each = (
+      → (last : Machine) × AreTaken lost old place first (oks tooks) now last × ((more : List Made) × AreItems last (first + length tooks) more × (writes more ≡ rest))
+  take_each events replies old run place first list running items server now core safe [] rest [] split each = (
     old,
     record {
       run = refl;
       only = only_same old old place.index refl;
       core_is = ap (λ (s : Serving). s.core) each ∙ core;
-      sound = subst (λ (s : Serving). IsSoundServer s.core) (sym each) sound;
+      safe = subst (IsSafe lost) (sym each) safe;
     },
     (list, subst (λ n. AreItems old n list) (none_more first) items, split),
   )
-  take_each events replies old run place first list running items server now core sound [] rest (took ∷ tooks) split each = absurd each
-  take_each events replies old run place first list running items server now core sound (write ∷ given) rest [] split each = absurd each
-  take_each events replies old run place first [] running items server now core sound (write ∷ given) rest (took ∷ tooks) split each = absurd (cc)
-  take_each events replies old run place first (made ∷ list) running items server now core sound (write ∷ given) rest (took ∷ tooks) split (mid, does, each) =
+  take_each events replies old run place first list running items server now core safe [] rest (took ∷ tooks) split each = absurd each
+  take_each events replies old run place first list running items server now core safe (write ∷ given) rest [] split each = absurd each
+  take_each events replies old run place first [] running items server now core safe (write ∷ given) rest (took ∷ tooks) split each = absurd (cc)
+  take_each events replies old run place first (made ∷ list) running items server now core safe (write ∷ given) rest (took ∷ tooks) split (mid, does, each) =
       let is : made.write ≡ write = cc in
       let later : writes list ≡ given ++ rest = cc in
       let there : slice_get old.items first ≡ Some made =
@@ -163,26 +164,26 @@ module _ (first_one : Machine) (have : (events : List Event) (replies : List Rep
       } in
       let others = take_each (events ++ events_of.Take place first ∷ []) (replies ++ replies_of.Took (Ok took) ∷ []) next
       (run_append first_one old next events replies (events_of.Take place first ∷ []) (replies_of.Took (Ok took) ∷ []) run (next, one.1, refl))
-      place (first + 1) list (runs_on old next place.index one.2 running) behind mid now one.3 does.sound.1 given rest tooks later each in
+      place (first + 1) list (runs_on old next place.index one.2 running) behind mid now one.3 (safe_taken laws lost server mid safe write (Ok took) does) given rest tooks later each in
       let last = others.0 in (
         last,
         record {
           run = (next, one.1, others.1.run);
           only = only_then old next last place.index one.2 others.1.only;
           core_is = others.1.core_is;
-          sound = others.1.sound;
+          safe = others.1.safe;
         },
         (others.2.0, subst (λ n. AreItems last n others.2.0) (one_more first (length tooks)) others.2.1, others.2.2),
       )
 
   -- the items before the last one were taken, and that one wasn't
   take_last : (events : List Event) (replies : List Reply) (old : Machine) → Run first_one events replies old → (place : ServerId) (first : ℕ) (list : List Made) → IsRunning old place.index → AreItems old first list
-      → (server mid now : Serving) → server.core ≡ core_at old place.index → IsSoundServer server.core → (given : List Write) (write : Write) (rest : List Write) (tooks : List Took) → writes list ≡ given ++ write ∷ rest
+      → (server mid now : Serving) → server.core ≡ core_at old place.index → IsSafe lost server → (given : List Write) (write : Write) (rest : List Write) (tooks : List Took) → writes list ≡ given ++ write ∷ rest
       → TakesEach (TakesAt memory_device) server given tooks mid → (fault : TakeFault) → TakesAt memory_device mid write (Err fault) now
-      → (last : Machine) × AreTaken old place first (oks tooks ++ Err fault ∷ []) now last
-  take_last events replies old run place first list running items server mid now core sound [] write rest [] split each fault does = at_last list items split
+      → (last : Machine) × AreTaken lost old place first (oks tooks ++ Err fault ∷ []) now last
+  take_last events replies old run place first list running items server mid now core safe [] write rest [] split each fault does = at_last list items split
     where
-      at_last : (list : List Made) → AreItems old first list → writes list ≡ write ∷ rest → (last : Machine) × AreTaken old place first (Err fault ∷ []) now last
+      at_last : (list : List Made) → AreItems old first list → writes list ≡ write ∷ rest → (last : Machine) × AreTaken lost old place first (Err fault ∷ []) now last
       at_last [] items split = absurd (cc)
       at_last (made ∷ list) items split =
           let is : made.write ≡ write = cc in
@@ -190,11 +191,11 @@ module _ (first_one : Machine) (have : (events : List Event) (replies : List Rep
           subst (λ n. slice_get old.items n ≡ Some made) (sym items.at)
           (subst (λ all. slice_get all (length items.before) ≡ Some made) (sym items.split) (get-append_here items.before (list ++ items.behind) made)) in
           let one = take_one events replies old run place first made running there mid now (ap (λ (s : Serving). s.core) each ∙ core) (Err fault) (subst (λ w. TakesAt memory_device mid w (Err fault) now) (sym is) does) in
-          (one.0, record { run = (one.0, one.1, refl); only = one.2; core_is = one.3; sound = does.sound.1 })
-  take_last events replies old run place first list running items server mid now core sound [] write rest (took ∷ tooks) split each fault does = absurd each
-  take_last events replies old run place first list running items server mid now core sound (one ∷ given) write rest [] split each fault does = absurd each
-  take_last events replies old run place first [] running items server mid now core sound (one ∷ given) write rest (took ∷ tooks) split each fault does = absurd (cc)
-  take_last events replies old run place first (made ∷ list) running items server mid now core sound (one ∷ given) write rest (took ∷ tooks) split (middle, taken, each) fault does =
+          (one.0, record { run = (one.0, one.1, refl); only = one.2; core_is = one.3; safe = safe_taken laws lost mid now (subst (IsSafe lost) (sym each) safe) write (Err fault) does })
+  take_last events replies old run place first list running items server mid now core safe [] write rest (took ∷ tooks) split each fault does = absurd each
+  take_last events replies old run place first list running items server mid now core safe (one ∷ given) write rest [] split each fault does = absurd each
+  take_last events replies old run place first [] running items server mid now core safe (one ∷ given) write rest (took ∷ tooks) split each fault does = absurd (cc)
+  take_last events replies old run place first (made ∷ list) running items server mid now core safe (one ∷ given) write rest (took ∷ tooks) split (middle, taken, each) fault does =
       let is : made.write ≡ one = cc in
       let later : writes list ≡ given ++ write ∷ rest = cc in
       let there : slice_get old.items first ≡ Some made =
@@ -210,14 +211,14 @@ module _ (first_one : Machine) (have : (events : List Event) (replies : List Rep
       } in
       let others = take_last (events ++ events_of.Take place first ∷ []) (replies ++ replies_of.Took (Ok took) ∷ []) next
       (run_append first_one old next events replies (events_of.Take place first ∷ []) (replies_of.Took (Ok took) ∷ []) run (next, step.1, refl))
-      place (first + 1) list (runs_on old next place.index step.2 running) behind middle mid now step.3 taken.sound.1 given write rest tooks later each fault does in
+      place (first + 1) list (runs_on old next place.index step.2 running) behind middle mid now step.3 (safe_taken laws lost server middle safe one (Ok took) taken) given write rest tooks later each fault does in
       let last = others.0 in (
         last,
         record {
           run = (next, step.1, others.1.run);
           only = only_then old next last place.index step.2 others.1.only;
           core_is = others.1.core_is;
-          sound = others.1.sound;
+          safe = others.1.safe;
         },
       )
 
@@ -239,7 +240,7 @@ coming_front None sent = ([], sym (append-nil sent))
 coming_front (Some items) sent = (drop items sent, sym (take-append-drop items sent))
 
 -- what a pull leaves that collects for this offer
-pub record IsPulled (old : Machine) (to source : ServerId) (offer : ℕ) (result : Result Pulled PullStopped) (now : Serving) : Type 0 where
+pub record IsPulled (lost : Bool) (old : Machine) (to source : ServerId) (offer : ℕ) (result : Result Pulled PullStopped) (now : Serving) : Type 0 where
   pub number : ℕ
   pub told : List (Result Took TakeFault)
   pub lacking : List Made
@@ -248,18 +249,18 @@ pub record IsPulled (old : Machine) (to source : ServerId) (offer : ℕ) (result
   pub run : Run old (events_of.Collect source offer ∷ takes to (length old.items) (length told)) (replies_of.Flown (length old.items) number ∷ map tells_took told) last
   pub only : IsServerOnly (record old { items = old.items ++ lacking }) to.index last
   pub core_is : now.core ≡ core_at last to.index
-  pub sound : IsSoundServer now.core
+  pub safe : IsSafe lost now
   pub few : length lacking ≤ MAX_WRITES
 
 max_few : (number most : ℕ) → number ≤ most → 1 ≤ most → max number 1 ≤ most
 max_few number most few one = omega (arith, few, one)
 
-module _ (first_one : Machine) (have : (events : List Event) (replies : List Reply) (last : Machine) → Run first_one events replies last → AreRows last) where
+module _ (laws : StayHonest) (lost : Bool) (first_one : Machine) (have : (events : List Event) (replies : List Reply) (last : Machine) → Run first_one events replies last → AreRows last) where
   pub collected : (events : List Event) (replies : List Reply) (old : Machine) → Run first_one events replies old → (to source : ServerId) (offer : ℕ) (offered : Offered) → slice_get old.offers offer ≡ Some offered
-      → IsRunning old to.index → IsRunning old source.index → (server other now : Serving) → server.core ≡ core_at old to.index → IsSoundServer server.core → other.core ≡ core_at old source.index → IsSoundServer other.core
+      → IsRunning old to.index → IsRunning old source.index → (server other now : Serving) → server.core ≡ core_at old to.index → IsSafe lost server → other.core ≡ core_at old source.index → IsSoundServer other.core
       → old.limit ≤ MAX_WRITES → length old.items + MAX_WRITES ≤ MAX_NUMBER + 1 → (cut : Option ℕ) (result : Result Pulled PullStopped)
-      → Meets serving_ways (lacking_of (count_of offered.database) other.core.held) cut server result now → IsPulled old to source offer result now
-  collected events replies old run to source offer offered there running_to running_source server other now core sound other_core other_sound limit room cut result meets =
+      → Meets serving_ways (lacking_of (count_of offered.database) other.core.held) cut server result now → IsPulled lost old to source offer result now
+  collected events replies old run to source offer offered there running_to running_source server other now core safe other_core other_sound limit room cut result meets =
       let row = (have events replies old run).collects_are source offer offered running_source there in
       let lacking = row.0 in
       let counts = count_of offered.database in
@@ -278,8 +279,8 @@ module _ (first_one : Machine) (have : (events : List Event) (replies : List Rep
       let split : (given left : List Write) → coming cut (lacking_of counts other.core.held) ≡ given ++ left → writes lacking ≡ given ++ (left ++ front.0) = λ given left is.
       sym sent ∙ (front.1 ∙ (ap (λ list. list ++ front.0) is ∙ append_assoc given left front.0)) in
       let all : (given left : List Write) (tooks : List Took) → coming cut (lacking_of counts other.core.held) ≡ given ++ left → TakesEach (TakesAt memory_device) server given tooks now
-      → IsEnd (oks tooks) result → IsPulled old to source offer result now = λ given left tooks is each ends.
-      let taken = take_each first_one have (events ++ events_of.Collect source offer ∷ []) (replies ++ replies_of.Flown (length old.items) (length lacking) ∷ []) mid run_mid to (length old.items) lacking running items server now core sound
+      → IsEnd (oks tooks) result → IsPulled lost old to source offer result now = λ given left tooks is each ends.
+      let taken = take_each laws lost first_one have (events ++ events_of.Collect source offer ∷ []) (replies ++ replies_of.Flown (length old.items) (length lacking) ∷ []) mid run_mid to (length old.items) lacking running items server now core safe
       given (left ++ front.0) tooks (split given left is) each in
       record {
         number = length lacking;
@@ -290,11 +291,11 @@ module _ (first_one : Machine) (have : (events : List Event) (replies : List Rep
         run = (mid, step, taken.1.run);
         only = taken.1.only;
         core_is = taken.1.core_is;
-        sound = taken.1.sound;
+        safe = taken.1.safe;
         few = few;
       } in
       by_result result meets all (λ given write left tooks middle is each fault does ends.
-      let taken = take_last first_one have (events ++ events_of.Collect source offer ∷ []) (replies ++ replies_of.Flown (length old.items) (length lacking) ∷ []) mid run_mid to (length old.items) lacking running items server middle now core sound
+      let taken = take_last laws lost first_one have (events ++ events_of.Collect source offer ∷ []) (replies ++ replies_of.Flown (length old.items) (length lacking) ∷ []) mid run_mid to (length old.items) lacking running items server middle now core safe
       given write (left ++ front.0) tooks (split given (write ∷ left) is) each fault does in
       record {
         number = length lacking;
@@ -305,20 +306,20 @@ module _ (first_one : Machine) (have : (events : List Event) (replies : List Rep
         run = (mid, step, taken.1.run);
         only = taken.1.only;
         core_is = taken.1.core_is;
-        sound = taken.1.sound;
+        safe = taken.1.safe;
         few = few;
       })
     where
       by_result : (result : Result Pulled PullStopped) → Meets serving_ways (lacking_of (count_of offered.database) other.core.held) cut server result now
           → ((given left : List Write) (tooks : List Took) → coming cut (lacking_of (count_of offered.database) other.core.held) ≡ given ++ left → TakesEach (TakesAt memory_device) server given tooks now
-          → IsEnd (oks tooks) result → IsPulled old to source offer result now)
+          → IsEnd (oks tooks) result → IsPulled lost old to source offer result now)
           → ((given : List Write) (write : Write) (left : List Write) (tooks : List Took) (middle : Serving) → coming cut (lacking_of (count_of offered.database) other.core.held) ≡ given ++ write ∷ left
-          → TakesEach (TakesAt memory_device) server given tooks middle → (fault : TakeFault) → TakesAt memory_device middle write (Err fault) now → IsEnd (oks tooks ++ Err fault ∷ []) result → IsPulled old to source offer result now)
-          → IsPulled old to source offer result now
+          → TakesEach (TakesAt memory_device) server given tooks middle → (fault : TakeFault) → TakesAt memory_device middle write (Err fault) now → IsEnd (oks tooks ++ Err fault ∷ []) result → IsPulled lost old to source offer result now)
+          → IsPulled lost old to source offer result now
       by_result (Ok pulled) (not_cut, first) all last = all first.given [] first.tooks first.split first.took (first.tooks, record { taken = first.new; had = first.held }, refl)
       by_result (Err stopped) meets all last = by_fault stopped.fault refl meets
         where
-          by_fault : (fault : PullFault) → stopped.fault ≡ fault → MeetsStopped serving_ways (lacking_of (count_of offered.database) other.core.held) cut server stopped.before fault now → IsPulled old to source offer (Err stopped) now
+          by_fault : (fault : PullFault) → stopped.fault ≡ fault → MeetsStopped serving_ways (lacking_of (count_of offered.database) other.core.held) cut server stopped.before fault now → IsPulled lost old to source offer (Err stopped) now
           by_fault (RefusedItem refusal) is (middle, write, left, first, does) =
               last first.given write left first.tooks middle first.split first.took refusal does
               (first.tooks, record { taken = first.new; had = first.held }, subst (EndsBy first.tooks (oks first.tooks ++ Err refusal ∷ [])) (sym is) refl)

@@ -1,6 +1,5 @@
 -- Reads, Writes and Writes that are asked again, as a script answers them, are told by the machine.
-use Rattle.std.proofs.Common.{zero, suc, ◌≡◌, inl, inr, ℕ, ◌+◌, ◌<◌, Bool, true, false, List, [], ◌∷◌, ◌++◌, Result, Ok, Err, Option, None, Some, ap, sym, ◌∙◌, refl, subst, arith}
-use Rattle.std.specs.List.{slice_get, slice_set}
+use Rattle.std.proofs.Common.{◌≡◌, inl, inr, ℕ, ◌+◌, Bool, true, false, List, [], ◌∷◌, ◌++◌, Result, Ok, Err, Option, None, Some, ap, sym, ◌∙◌, refl, subst, arith}
 use Rattle.std.specs.Option.{option_map}
 use Rattle.std.proofs.lemmas.List.{append-nil}
 use Rattle.bayou_base.specs.declared.answer.Accepted.{Accepted}
@@ -9,29 +8,25 @@ use Rattle.bayou_base.specs.declared.entry.Entry.{Entry}
 use Rattle.bayou_base.specs.declared.entry.What.{What}
 use Rattle.bayou_base.specs.declared.entry.What.TheVariants as whats
 use Rattle.bayou_base.specs.declared.limits.TheConstants.{MAX_PLACES}
-use Rattle.bayou_base.specs.declared.server.ServerId.{ServerId}
 use Rattle.bayou_base.specs.declared.session.SessionId.{SessionId}
 use Rattle.bayou_lang.specs.declared.program.Program.{Program}
-use Rattle.bayou_server.specs.declared.answer.Stopped.{Stopped as StoppedServer}
 use Rattle.bayou_server.specs.declared.answer.Written.{Written}
 use Rattle.bayou_server.specs.declared.answer.Written.TheVariants.{New, Known}
 use Rattle.bayou_server.specs.declared.fault.Behind.{Behind}
 use Rattle.bayou_server.specs.declared.fault.WriteFault.{WriteFault}
 use Rattle.bayou_server.specs.Reads.{Reads}
 use Rattle.bayou_server.specs.Writes.{Writes}
-use Rattle.bayou_device.specs.Memory.{Memory}
-use Rattle.bayou_session.specs.Needs.{Told, after_read, after_write, read_need, write_need}
+use Rattle.bayou_session.specs.Needs.{after_read, after_write, read_need, write_need}
 use Rattle.bayou_text.specs.Said.{Said, read, write, again}
 use Rattle.bayou_script.specs.Capacity.{operation_of, operations}
 use Rattle.bayou_script.specs.Script.{Plan, is_open}
 use Rattle.bayou_answers.specs.declared.answer.Answer.{Answer}
 use Rattle.bayou_answers.specs.declared.answer.Answer.TheVariants.{Lost}
 use Rattle.bayou_machine.specs.declared.script_server.ScriptServer.{ScriptServer}
-use Rattle.bayou_machine.specs.declared.script_server.ScriptServer.TheVariants.{Running, Stopped}
 use Rattle.bayou_machine.specs.Filed.{Files, what_told}
 use Rattle.bayou_machine.specs.Laws.Runs.{operations-first}
 use Rattle.bayou_machine.specs.Run.{ScriptState}
-use Rattle.bayou_machine.specs.ScriptServer.{AnswersWrite, GetsNoReply, IsRead, IsWritten, IsWrittenAgain, Serving, read_answer, reply_of, write_answer}
+use Rattle.bayou_machine.specs.ScriptServer.{AnswersWrite, GetsNoReply, IsRead, IsWritten, IsWrittenAgain, read_answer, reply_of, write_answer}
 use Rattle.bayou_machine.specs.Seats.{Seat, asks_at, asks_once_more, begins_read, given_of}
 use Rattle.bayou_machine.specs.Seats as seats
 use Rattle.bayou_machine.specs.Standing.{Standing, StandsAt, seat_of, with_server, with_session}
@@ -45,52 +40,15 @@ use Rattle.bayou_world.specs.Never.{core_at}
 use Rattle.bayou_world.specs.Rows.{IsAnsweredAt, told_of_program, told_of_read}
 use Rattle.bayou_world.specs.Steps.{MayBegin, Step, first_asking, heard, told}
 use Rattle.bayou_world.specs.Steps as steps
-use Rattle.bayou_runs.specs.Inner.Tie.{AreRows, HaveRows, IsAt, IsSeatOf, IsSeated, IsTelling, asked_by_it, first_of_script, number_of_it}
-use Rattle.bayou_runs.specs.Lines.{IsLine, IsTurn}
+use Rattle.bayou_runs.specs.Inner.Tie.{AreRows, HaveRows, IsAt, IsSeatOf, IsSeated, IsTelling, StayHonest, first_of_script, number_of_it}
+use Rattle.bayou_runs.specs.Lines.{IsLine, has_lost}
 use Rattle.bayou_runs.specs.Runs.{IsInRange}
-use Rattle.bayou_runs.proofs.Lists.{get_within}
 use Rattle.bayou_runs.proofs.Operating.{IsOperation, IsToldSo, OpensNone, finish_heard, finish_lost, flying_of, moved, run_append}
+use Rattle.bayou_runs.proofs.Beginning.{IsTold, again_begins, known_server, may_begin, none_filed, read_begins, same_server, server_id, write_begins}
+use Rattle.bayou_runs.proofs.Safe.{beside_core, running_of, safe_written}
+use Rattle.bayou_runs.proofs.Silent.{again_silent, read_silent, write_silent}
 
--- what a line comes to
-pub record IsTold (plan : Plan) (front others : List Said) (said : Said) (new : ScriptState) (old : Machine) (answer : Answer) : Type 0 where
-  pub last : Machine
-  pub turn : IsTurn old said answer last
-  pub at : IsAt plan (front ++ said ∷ []) others new last
-
--- a list that has this at a place, and is set to it there
-pub set_to_it : {X : Type 0} (xs : List X) (at : ℕ) (x : X) → slice_get xs at ≡ Some x → slice_set xs at x ≡ xs
-set_to_it [] at x got = refl
-set_to_it (first ∷ xs) zero x got = let one : first ≡ x = cc in ap (λ y. y ∷ xs) (sym one)
-set_to_it (first ∷ xs) (suc at) x got = ap (λ ys. first ∷ ys) (set_to_it xs at x got)
-
-pub same_server : (standing : Standing) (place : ℕ) (replica : ScriptServer) → StandsAt standing place replica → with_server standing place replica ≡ standing
-same_server standing place replica stands = ap (λ list. record standing { servers = list }) (set_to_it standing.servers place replica stands)
-
--- where nothing is filed
-none_filed : (who place : ℕ) (told : Told) (what : Option What) (filed : List Entry) → what ≡ None → Files who place told what filed → filed ≡ []
-none_filed who place told None filed none is = is
-none_filed who place told (Some what) filed none is = absurd (cc)
-
-module _ (plan : Plan) (in_range : IsInRange plan) (have : HaveRows plan) where
-  abbrev server_id : (place : ℕ) → place < plan.count → ServerId
-  server_id place within = record { index = place; in_range = omega (arith, within, in_range.count) }
-
-  -- a server of the script's is one of the machine's
-  known_server : (front rest : List Said) (state : ScriptState) (old : Machine) → IsAt plan front rest state old → (place : ℕ) (replica : ScriptServer) → StandsAt state.standing place replica → place < plan.count
-  known_server front rest state old at place replica stands = omega (arith, get_within state.standing.servers place replica stands, at.one_each)
-
-  may_begin : (front rest : List Said) (state : ScriptState) (old : Machine) (at : IsAt plan front rest state old) (who : SessionId) (seated : IsSeated old who.index (seat_of state.standing who))
-      (place : ℕ) (replica : ScriptServer) → StandsAt state.standing place replica → (seat_of state.standing who).told.begun < MAX_PLACES → MayBegin old who.index place seated.session
-  may_begin front rest state old at who seated place replica stands left =
-      let running = at.each place replica stands in
-      let within = known_server front rest state old at place replica stands in
-      record {
-        there = seated.there;
-        server = record { there = omega (arith, within, at.count); runs = running.runs };
-        idle = seated.is.idle;
-        left = omega (arith, left, seated.is.telling.begun);
-      }
-
+module _ (plan : Plan) (in_range : IsInRange plan) (have : HaveRows plan) (laws : StayHonest) where
   -- no reply comes where no place is left: nothing is done
   no_place : (front : List Said) (said : Said) (others : List Said) (state new : ScriptState) (old : Machine) → IsAt plan front (said ∷ others) state old → OpensNone said → (who : SessionId) (place : ℕ) (replica : ScriptServer) (now : Seat)
       → StandsAt state.standing place replica → is_open who.index front ≡ true → (seat_of state.standing who).told.begun ≡ MAX_PLACES → operation_of said ≡ Some who.index → (answer : Answer) → answer ≡ Lost who → now ≡ seat_of state.standing who
@@ -101,7 +59,7 @@ module _ (plan : Plan) (in_range : IsInRange plan) (have : HaveRows plan) where
       let seated = at.opened who opened_there in
       record {
         last = old;
-        turn = record { events = []; replies = []; is = subst (λ (a : Answer). IsLine old said a [] []) (sym is_lost) (IsLine.no_place said who seated.session operates seated.there (sym seated.is.telling.begun ∙ full)); run = refl };
+        turn = record { events = []; replies = []; is = subst (λ (a : Answer). IsLine front old said a [] []) (sym is_lost) (IsLine.no_place said who seated.session operates seated.there (sym seated.is.telling.begun ∙ full)); run = refl };
         at = moved plan front said others state new old old at opens_none [] [] refl who place replica replica now stands opened_there
             (record { count = refl; limit = refl; capacity = refl; servers = λ other differs. refl; sessions = λ other differs. refl; offers = refl; items = refl })
             (at.each place replica stands) (subst (IsSeated old who.index) (sym same) seated) only
@@ -109,25 +67,7 @@ module _ (plan : Plan) (in_range : IsInRange plan) (have : HaveRows plan) where
             (omega (arith, at.room, operations-first said others));
       }
 
-  -- a server of the script's runs
-  runs : (front rest : List Said) (state : ScriptState) (old : Machine) → IsAt plan front rest state old → (place : ℕ) (replica : ScriptServer) → StandsAt state.standing place replica
-      → (left : StoppedServer Memory) → replica ≡ Stopped left → ⊥
-  runs front rest state old at place replica stands left stopped =
-      let running = at.each place replica stands in
-      let both : Running running.server ≡ Stopped left = sym running.is ∙ stopped in absurd (cc)
-
   -- ---- a read
-
-  -- what a session is told of a read
-  read_begins : (who : ℕ) (seat : Seat) (session : SessionSets) (answered : Answered) → IsTelling who seat session → IsTelling who (begins_read seat) (flying_of session None answered)
-  read_begins who seat session answered is = record {
-    id = is.id;
-    run = is.run;
-    begun = ap (λ n. n + 1) is.begun;
-    number = refl;
-    asked = refl;
-    stands = record { asks = is.stands.asks; long = is.stands.long; reads = is.stands.reads; writes = is.stands.writes };
-  }
 
   read_heard : (next : Machine) → AreRows next → (who : ℕ) (seat : Seat) (flying : SessionSets) (answered : Answered) → next.sessions who ≡ Some flying → flying.flight ≡ Some answered → IsTelling who seat flying
       → (key : List ℕ) (result : Result Seen Behind) → answered.entry.what ≡ told_of_read key result → IsTelling who (seats.told_of_read false seat result) (told (told_of_read key result) answered flying)
@@ -158,16 +98,14 @@ module _ (plan : Plan) (in_range : IsInRange plan) (have : HaveRows plan) where
       let only_it : new.standing ≡ with_session (with_server state.standing place replica) who now = only ∙ sym (ap (λ (s : Standing). with_session s who now) (same_server state.standing place replica stands)) in
       elim does as (λ _. IsTold plan front others said new old answer) [
         | inl (GetsNoReply.no_place none is_lost same) ↦ no_place front said others state new old at (λ other. refl) who place replica now stands opened_there none refl answer is_lost same only_it filed files books
-        | inl (GetsNoReply.stopped left stopped more is_lost same) ↦ absurd (runs front (said ∷ others) state old at place replica stands left stopped)
+        | inl (GetsNoReply.stopped left stopped more is_lost same) ↦ read_silent plan in_range have front others state new old who place key answer at opened_there replica now stands more is_lost same only_it filed files books
         | inr reads ↦
             let seated = at.opened who opened_there in
-            let running = at.each place replica stands in
+            let beside = at.each place replica stands in
             let seat = seat_of state.standing who in
-            let within = known_server front (said ∷ others) state old at place replica stands in
-            let both : Running reads.server ≡ Running running.server = sym reads.runs ∙ running.is in
-            let one : reads.server ≡ running.server = cc in
-            let core : reads.server.core ≡ core_at old place = ap (λ (s : Serving). s.core) one ∙ running.core_is in
-            let row = (have at.events at.replies old at.run).reads_are who (server_id place within) seated.session seat.told (may_begin front (said ∷ others) state old at who seated place replica stands reads.left) seated.is.telling.stands
+            let within = known_server plan in_range front (said ∷ others) state old at place replica stands in
+            let core = (running_of (has_lost place front) old place replica beside reads.server reads.runs).0 in
+            let row = (have at.events at.replies old at.run).reads_are who (server_id plan in_range place within) seated.session seat.told (may_begin plan in_range front (said ∷ others) state old at who seated place replica stands reads.left) seated.is.telling.stands
             key reads.result (subst (λ c. Reads c (read_need seat.told) key reads.result) core reads.reads) in
             let next = row.0 in
             let ans = row.2 in
@@ -180,14 +118,11 @@ module _ (plan : Plan) (in_range : IsInRange plan) (have : HaveRows plan) where
               opened_there = opened_there;
               there = seated.there;
               was = seated.is;
-              event = events.Read who (server_id place within) key;
+              event = events.Read who (server_id plan in_range place within) key;
               reply = replies.Read reads.result;
               step = row.1;
               answered = ans;
-              server = running.server;
-              is = running.is;
-              core_is = running.core_is;
-              sound = running.sound;
+              beside = λ last same runs. beside_core (has_lost place front) old last place replica (sym same) runs beside;
               telling = telling;
             } in
             let rows = have (at.events ++ did.event ∷ []) (at.replies ++ did.reply ∷ []) next (run_append (first_of_script plan) old next at.events at.replies (did.event ∷ []) (did.reply ∷ []) at.run (next, row.1, refl)) in
@@ -212,7 +147,7 @@ module _ (plan : Plan) (in_range : IsInRange plan) (have : HaveRows plan) where
               turn = record {
                 events = did.event ∷ is.events;
                 replies = did.reply ∷ is.replies;
-                is = IsLine.a_read who (server_id place within) key reads.result answer is.events is.replies is.ends;
+                is = IsLine.a_read who (server_id plan in_range place within) key reads.result answer is.events is.replies is.ends;
                 run = is.run;
               };
               at = is.at;
@@ -220,28 +155,6 @@ module _ (plan : Plan) (in_range : IsInRange plan) (have : HaveRows plan) where
       ]
 
   -- ---- a Write, the first time or again
-
-  write_begins : (who place : ℕ) (program : Program) (seat : Seat) (session : SessionSets) (answered : Answered) → IsTelling who seat session
-      → IsTelling who (asks_at place program seat) (flying_of session (Some (first_asking place session program)) answered)
-  write_begins who place program seat session answered is = record {
-    id = is.id;
-    run = is.run;
-    begun = ap (λ n. n + 1) is.begun;
-    number = ap (λ n. Some (n + 1)) is.begun;
-    asked = refl;
-    stands = record { asks = is.stands.asks; long = is.stands.long; reads = is.stands.reads; writes = is.stands.writes };
-  }
-
-  again_begins : (who : ℕ) (seat : Seat) (session : SessionSets) (asking : Asking) (answered : Answered) → session.asked ≡ Some asking → IsTelling who seat session
-      → IsTelling who (asks_once_more seat) (flying_of session (Some asking) answered)
-  again_begins who seat session asking answered asked is = record {
-    id = is.id;
-    run = is.run;
-    begun = ap (λ n. n + 1) is.begun;
-    number = is.number ∙ ap (λ o. option_map number_of_it o) asked;
-    asked = is.asked ∙ ap (λ o. option_map asked_by_it o) asked;
-    stands = record { asks = is.stands.asks; long = is.stands.long; reads = is.stands.reads; writes = is.stands.writes };
-  }
 
   given_heard : (next : Machine) → AreRows next → (who : ℕ) (seat : Seat) (flying : SessionSets) (answered : Answered) → next.sessions who ≡ Some flying → flying.flight ≡ Some answered → IsTelling who seat flying
       → (accepted : Accepted) → answered.entry.what ≡ whats.Write accepted.wid accepted.stamp accepted.deps
@@ -295,10 +208,14 @@ module _ (plan : Plan) (in_range : IsInRange plan) (have : HaveRows plan) where
         reply = reply;
         step = step;
         answered = ans;
-        server = answers.new;
-        is = answers.is;
-        core_is = refl;
-        sound = answers.sound.1;
+        beside = λ last same runs. inl (record {
+          server = answers.new;
+          is = answers.is;
+          core_is = same;
+          safe = safe_written laws (has_lost place front) answers.old answers.new (running_of (has_lost place front) old place before (at.each place before stands) answers.old answers.was).1
+              answers.tag (write_need seat.told) program answers.result answers.writes answers.stores answers.sound.1 answers.safe answers.others;
+          runs = runs;
+        });
         telling = telling;
       } in
       let rows = have (at.events ++ event ∷ []) (at.replies ++ reply ∷ []) next (run_append (first_of_script plan) old next at.events at.replies (event ∷ []) (reply ∷ []) at.run (next, step, refl)) in
@@ -318,15 +235,6 @@ module _ (plan : Plan) (in_range : IsInRange plan) (have : HaveRows plan) where
             (write_heard next rows who.index begun (flying_of session asked ans.answered) ans.answered ans.flies refl telling answers.result ans.entry.what_is))
       ] in so seat.drops refl
 
-  -- the server of the script's has the core of the machine's
-  core_there : (front rest : List Said) (state : ScriptState) (old : Machine) → IsAt plan front rest state old → (place : ℕ) (before : ScriptServer) → StandsAt state.standing place before
-      → (server : Serving) → before ≡ Running server → server.core ≡ core_at old place
-  core_there front rest state old at place before stands server is =
-      let running = at.each place before stands in
-      let both : Running server ≡ Running running.server = sym is ∙ running.is in
-      let one : server ≡ running.server = cc in
-      ap (λ (s : Serving). s.core) one ∙ running.core_is
-
   pub write_said : (front others : List Said) (state new : ScriptState) (old : Machine) (who : SessionId) (place : ℕ) (program : Program) (answer : Answer) → IsAt plan front (write who.index place program ∷ others) state old
       → is_open who.index front ≡ true → (before after : ScriptServer) (now : Seat) → StandsAt state.standing place before → IsWritten who place program before (seat_of state.standing who) answer after now
       → new.standing ≡ with_session (with_server state.standing place after) who now → (filed : List Entry) → Files who.index place (seat_of state.standing who).told (what_told answer) filed
@@ -337,30 +245,32 @@ module _ (plan : Plan) (in_range : IsInRange plan) (have : HaveRows plan) where
         | inl (GetsNoReply.no_place none is_lost same, unmoved) ↦
             no_place front said others state new old at (λ other. refl) who place before now stands opened_there none refl answer is_lost same
             (only ∙ ap (λ a. with_session (with_server state.standing place a) who now) unmoved) filed files books
-        | inl (GetsNoReply.stopped left stopped more is_lost same, unmoved) ↦ absurd (runs front (said ∷ others) state old at place before stands left stopped)
+        | inl (GetsNoReply.stopped left stopped more is_lost same, unmoved) ↦
+            write_silent plan in_range have front others state new old who place program answer at opened_there before now stands more is_lost same
+            (only ∙ ap (λ a. with_session (with_server state.standing place a) who now) unmoved) filed files books
         | inr answers ↦
             let seated = at.opened who opened_there in
             let session = seated.session in
             let seat = seat_of state.standing who in
-            let within = known_server front (said ∷ others) state old at place before stands in
+            let within = known_server plan in_range front (said ∷ others) state old at place before stands in
             let tag : steps.IsTagOf who.index (session.begun + 1) answers.tag = record {
               session_is = ap (λ (i : SessionId). i.index) answers.asked.0 ∙ seated.is.telling.id;
               run_is = answers.asked.1 ∙ seated.is.telling.run;
               number_is = answers.asked.2 ∙ ap (λ n. n + 1) seated.is.telling.begun;
             } in
-            let row = (have at.events at.replies old at.run).writes_are who (server_id place within) session seat.told (may_begin front (said ∷ others) state old at who seated place before stands answers.left) seated.is.telling.stands
+            let row = (have at.events at.replies old at.run).writes_are who (server_id plan in_range place within) session seat.told (may_begin plan in_range front (said ∷ others) state old at who seated place before stands answers.left) seated.is.telling.stands
             answers.tag tag program answers.result answers.new.core
-            (subst (λ c. Writes c answers.tag (write_need seat.told) program answers.result answers.new.core) (core_there front (said ∷ others) state old at place before stands answers.old answers.was) answers.writes) in
+            (subst (λ c. Writes c answers.tag (write_need seat.told) program answers.result answers.new.core) (running_of (has_lost place front) old place before (at.each place before stands) answers.old answers.was).0 answers.writes) in
             let ans = row.2 in
             let is = written front said others state new old at (λ other. refl) refl who place (seat.told.begun + 1) program (asks_at place program) before after now answer stands opened_there answers only filed files books
-            session seated.there seated.is (Some (first_asking place session program)) (events.Write who (server_id place within) program) (replies.Wrote answers.result) row.0 row.1 ans
+            session seated.there seated.is (Some (first_asking place session program)) (events.Write who (server_id plan in_range place within) program) (replies.Wrote answers.result) row.0 row.1 ans
             (write_begins who.index place program seat session ans.answered seated.is.telling) in
             record {
               last = is.last;
               turn = record {
-                events = events.Write who (server_id place within) program ∷ is.events;
+                events = events.Write who (server_id plan in_range place within) program ∷ is.events;
                 replies = replies.Wrote answers.result ∷ is.replies;
-                is = IsLine.a_write who (server_id place within) program answers.result answer is.events is.replies is.ends;
+                is = IsLine.a_write who (server_id plan in_range place within) program answers.result answer is.events is.replies is.ends;
                 run = is.run;
               };
               at = is.at;
@@ -379,10 +289,12 @@ module _ (plan : Plan) (in_range : IsInRange plan) (have : HaveRows plan) where
         | inl (GetsNoReply.no_place none is_lost same, unmoved) ↦
             no_place front said others state new old at (λ other. refl) who place before now stands opened_there none refl answer is_lost same
             (only ∙ ap (λ a. with_session (with_server state.standing place a) who now) unmoved) filed files books
-        | inl (GetsNoReply.stopped left stopped more is_lost same, unmoved) ↦ absurd (runs front (said ∷ others) state old at place before stands left stopped)
+        | inl (GetsNoReply.stopped left stopped more is_lost same, unmoved) ↦
+            again_silent plan in_range have front others state new old who asking answer at opened_there session there was is_asked before now stands more is_lost same
+            (only ∙ ap (λ a. with_session (with_server state.standing place a) who now) unmoved) filed files books
         | inr (number, is_number, answers) ↦
             let seat = seat_of state.standing who in
-            let within = known_server front (said ∷ others) state old at place before stands in
+            let within = known_server plan in_range front (said ∷ others) state old at place before stands in
             let both : Some number ≡ Some asking.number = sym is_number ∙ (was.telling.number ∙ ap (λ o. option_map number_of_it o) is_asked) in
             let equal : number ≡ asking.number = cc in
             let tag : steps.IsTagOf who.index asking.number answers.tag = record {
@@ -390,19 +302,19 @@ module _ (plan : Plan) (in_range : IsInRange plan) (have : HaveRows plan) where
               run_is = answers.asked.1 ∙ was.telling.run;
               number_is = answers.asked.2 ∙ equal;
             } in
-            let begin = may_begin front (said ∷ others) state old at who (record { session = session; there = there; is = was }) place before stands answers.left in
-            let row = (have at.events at.replies old at.run).agains_are who (server_id place within) session seat.told was.telling.stands asking is_asked refl begin
+            let begin = may_begin plan in_range front (said ∷ others) state old at who (record { session = session; there = there; is = was }) place before stands answers.left in
+            let row = (have at.events at.replies old at.run).agains_are who (server_id plan in_range place within) session seat.told was.telling.stands asking is_asked refl begin
             answers.tag tag answers.result answers.new.core
-            (subst (λ c. Writes c answers.tag (write_need seat.told) asking.program answers.result answers.new.core) (core_there front (said ∷ others) state old at place before stands answers.old answers.was) answers.writes) in
+            (subst (λ c. Writes c answers.tag (write_need seat.told) asking.program answers.result answers.new.core) (running_of (has_lost place front) old place before (at.each place before stands) answers.old answers.was).0 answers.writes) in
             let ans = row.2 in
             let is = written front said others state new old at (λ other. refl) refl who place number asking.program asks_once_more before after now answer stands opened_there answers only filed files books
-            session there was (Some asking) (events.Again who) (replies.AskedAgain (server_id place within) answers.result) row.0 row.1 ans (again_begins who.index seat session asking ans.answered is_asked was.telling) in
+            session there was (Some asking) (events.Again who) (replies.AskedAgain (server_id plan in_range place within) answers.result) row.0 row.1 ans (again_begins who.index seat session asking ans.answered is_asked was.telling) in
             record {
               last = is.last;
               turn = record {
                 events = events.Again who ∷ is.events;
-                replies = replies.AskedAgain (server_id place within) answers.result ∷ is.replies;
-                is = IsLine.an_again who (server_id place within) answers.result answer is.events is.replies is.ends;
+                replies = replies.AskedAgain (server_id plan in_range place within) answers.result ∷ is.replies;
+                is = IsLine.an_again who (server_id plan in_range place within) answers.result answer is.events is.replies is.ends;
                 run = is.run;
               };
               at = is.at;

@@ -34,7 +34,7 @@ entries_told front = filter_map entry_told front
 abbrev pub dump_told : ℕ → List Said → List Write
 dump_told server front = filter_map (write_told server) front
 
--- Whether a line of an audit file may say this behind what was said before: `servers` comes first, and once; an entry is of a
+-- Whether a line of an audit file may say this after what was said before: `servers` comes first, and once; an entry is of a
 -- server that there is, and one of so many at the most; what is held is held and was accepted by servers that there are; and
 -- each vector has a count for each server.
 abbrev pub audit_order : Order

@@ -15,7 +15,7 @@ use Rattle.bayou_script.specs.declared.fault.ScriptFault.TheVariants.{NotJson, B
 abbrev pub lines_of : List ℕ → List (List ℕ)
 lines_of text = slice_split (λ byte. byte == 10) text
 
--- an order: whether the line of this number may say this behind what was said before
+-- an order: whether the line of this number may say this after what was said before
 abbrev pub Order : Type 0
 Order = ℕ → List Said → Said → Bool
 
@@ -26,7 +26,7 @@ pub data InOrderBy (order : Order) : List (List ℕ) → List Said → Type 0 wh
   added : (lines : List (List ℕ)) (front : List Said) (line : List ℕ) (said : Said) → InOrderBy order lines front
       → line ≢ [] → Spells line said → IsTrue (order (length lines + 1) front said) → InOrderBy order (lines ++ line ∷ []) (front ++ said ∷ [])
 
--- What this says was added behind the front, if that is its place there.
+-- What this says was added after the front, if that is its place there.
 pub record HasAdded {D : Type 0} (order : Order) (keeps : D → List Said → Type 0) (number : ℕ) (front : List Said) (told : Said) (new : D) (placed : Bool) : Type 0 where
   pub place : placed ≡ order number front told
   pub kept : IsTrue placed → keeps new (front ++ told ∷ [])
@@ -39,7 +39,7 @@ kind_of (line.BadShape what) = Some BadShape
 kind_of (line.Key why) = Some BadKey
 kind_of (line.Program why) = Some BadProgram
 
--- the fault of the line of this number behind what was said: its own, or that it is out of place
+-- the fault of the line of this number after what was said: its own, or that it is out of place
 pub data HasFault (order : Order) (number : ℕ) (front : List Said) (bytes : List ℕ) (fault : ScriptFault) : Type 0 where
   in_itself : (why : LineFault) → bytes ≢ [] → IsFaultOf bytes why → kind_of why ≡ Some fault → HasFault order number front bytes fault
   misplaced : (said : Said) → bytes ≢ [] → Spells bytes said → order number front said ≡ false → fault ≡ OutOfPlace → HasFault order number front bytes fault

@@ -85,20 +85,20 @@ abbrev pub started : List Said → ℕ
 started [] = 0
 started (first ∷ others) = unwrap_or (use_of first).starts 0
 
--- whether a line that starts no servers may stand behind this: something was said before, a session is opened once, and before it
+-- whether a line that starts no servers may stand after this: something was said before, a session is opened once, and before it
 -- is used, and servers are used that were started, none of them twice
 abbrev pub is_behind : List Said → Use → Bool
 is_behind front used = nat_lt 0 (length front) && (list_all (λ who. not (is_open who front)) used.opens
     && (list_all (λ who. is_open who front) used.sessions && are_servers (started front) used.servers))
 
--- whether it is what a line of an audit file says behind its first line
+-- whether it is what a line of an audit file says after its first line
 abbrev pub is_audit : Said → Bool
 is_audit (entry told counts) = true
 is_audit (held place item counts) = true
 is_audit _ = false
 
--- Whether a line may say this behind what was said before: `servers` comes first, and once, and a script says nothing of what an
--- audit file says behind it.
+-- Whether a line may say this after what was said before: `servers` comes first, and once, and a script says nothing of what an
+-- audit file says after it.
 abbrev pub has_place : List Said → Said → Bool
 has_place front said =
     if is_audit said then false

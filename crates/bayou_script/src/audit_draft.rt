@@ -82,7 +82,7 @@ impl AuditDraft {
         Ok(true)
     }
 
-    /// Adds what a line behind the first says, if that has its place.
+    /// Adds what a line after the first says, if that has its place.
     fn add_told(&mut self, told: AuditLine) -> Result<bool, InputRefusal>
         ensures { (number : ℕ) (front : List Said) → IsAuditDraftOf self.old front
             → MatchResult result (HasAdded audit_order IsAuditDraftOf number front (audit_said told) self.new) (λ refusal. refusal ≡ OutOfMemory) }

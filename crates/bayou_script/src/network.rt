@@ -7,7 +7,7 @@ ghost use Rattle.bayou_script.specs.NetworkSaid.{network_said};
 use bayou_base::{Asks, ServerId, SessionId};
 use bayou_text::{Command, Exchange, Extent, Operation, Question, Trial, TrialKind};
 
-/// What a line of a script over a network asks, behind the line that starts the servers.
+/// What a line of a script over a network asks, after the line that starts the servers.
 #[derive(Debug, Drop)]
 pub enum NetworkCommand {
     /// Opens a session that asks for these guarantees.
@@ -34,7 +34,7 @@ fn of_trial(trial: Trial) -> Option<NetworkCommand>
     }
 }
 
-/// What a server over a network can be told to take.
+/// What a server over a network can be asked to take.
 fn of_exchange(exchange: Exchange) -> Option<NetworkCommand>
     ensures { MatchOption result (runs_over_network (exchange_said exchange) ≡ false) (λ command. network_said command ≡ exchange_said exchange) }
 {

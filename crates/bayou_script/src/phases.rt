@@ -24,7 +24,7 @@ pub enum Part {
 }
 
 impl Part {
-    /// The part that a command is. A command that ends a phase is in none, and told as the rest.
+    /// The part that a command is. A command that ends a phase is in none, and counts as the rest.
     pub fn of(command: &NetworkCommand) -> Part
         ensures { IsPart result (network_said command.now) }
     {

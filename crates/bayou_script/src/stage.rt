@@ -73,7 +73,7 @@ impl Stage {
         self.opened[usize::from(session.index)]
     }
 
-    /// Whether a command that uses this may stand behind the line that started the servers.
+    /// Whether a command that uses this may stand after the line that started the servers.
     fn is_behind(&self, servers: Servers, uses: Uses) -> bool
         requires { self.now.servers ≡ Some servers }
         ensures place { (others front : List Said) (used : Use) → IsStageOf self.now others front → AreUses uses used → result ≡ is_behind front used }
@@ -90,7 +90,7 @@ impl Stage {
         opens_once && speaks_for_one_that_is_open && are_servers(servers.count, uses.servers)
     }
 
-    /// Whether a command that uses this may stand behind what was said. The session that it opens is open from then on.
+    /// Whether a command that uses this may stand after what was said. The session that it opens is open from then on.
     pub fn admit(&mut self, uses: Uses) -> bool
         ensures place { (others front : List Said) (used : Use) → IsStageOf self.old others front → AreUses uses used → result ≡ is_behind front used }
         ensures stage { (others front : List Said) (told : Said) → IsStageOf self.old others front → AreUses uses (use_of told)

@@ -17,7 +17,7 @@ pub trait Front: Drop {
     /// What a whole text says.
     type Text: Drop;
 
-    /// Whether the line of this number may say this behind what was said before.
+    /// Whether the line of this number may say this after what was said before.
     ghost order: { Order };
 
     /// It keeps what was said.
@@ -26,7 +26,7 @@ pub trait Front: Drop {
     /// The lines of a text say this.
     ghost says: { List (List ℕ) → Self.Text → Type 0 };
 
-    /// What holds of each text that is told, whatever its lines are.
+    /// What holds of each text that is given, whatever its lines are.
     ghost tells: { Self.Text → Type 0 };
 
     /// Nothing was said.
@@ -39,7 +39,7 @@ pub trait Front: Drop {
         ensures { (front : List Said) → keeps self.old front
             → MatchResult result (HasAdded order keeps number front (said line) self.new) (λ refusal. refusal ≡ OutOfMemory) };
 
-    /// What a text says of which this is all.
+    /// What the text says, where this is all of it.
     fn finish(self) -> Result<Self::Text, InputRefusal>
         ensures said { (lines : List (List ℕ)) (front : List Said) → InOrderBy order lines front → keeps self front
             → MatchResult result (says lines) (RefusedBy order lines) }
@@ -72,7 +72,7 @@ fn add_line<F: Front>(
     }
 }
 
-/// The first line that ends in the piece, and what stands behind its line feed, if there is one.
+/// The first line that ends in the piece, and what stands after its line feed, if there is one.
 fn first_line(piece: &[u8]) -> Option<(&[u8], &[u8])>
     ensures { MatchOption result (HasNoLineFeed piece.now)
         (λ parts. HasNoLineFeed parts.0.now × (piece.now ≡ (parts.0.now ++ 10 ∷ []) ++ parts.1.now)) }
@@ -138,7 +138,7 @@ impl<F: Front> TextReader<F> {
         Ok(())
     }
 
-    /// Takes the last bytes of a line, none of which is a line feed, and the line feed behind them.
+    /// Takes the last bytes of a line, none of which is a line feed, and the line feed after them.
     fn take_line(&mut self, alloc: Global, part: &[u8]) -> Result<(), InputRefusal>
         requires { HasNoLineFeed part.now }
         ensures { (bytes : List ℕ) → HasReadBy F.order F.keeps self.old bytes
@@ -148,7 +148,7 @@ impl<F: Front> TextReader<F> {
         self.end_line(alloc)
     }
 
-    /// Reads on. The least line with a fault is told as soon as its fault is sure, whatever stands behind it; then the reader
+    /// Reads on. The least line with a fault is reported as soon as its fault is sure, whatever stands after it; then the reader
     /// is of no more use.
     pub fn feed(&mut self, alloc: Global, piece: &[u8]) -> Result<(), InputRefusal>
         ensures { (bytes : List ℕ) → HasReadBy F.order F.keeps self.old bytes
@@ -162,7 +162,7 @@ impl<F: Front> TextReader<F> {
         self.go_on(rest)
     }
 
-    /// What all the lines have said. What stands behind the last line feed is the last of them.
+    /// What all the lines have said. What stands after the last line feed is the last of them.
     fn end(self, alloc: Global) -> Result<F, InputRefusal>
         ensures { (bytes : List ℕ) → HasReadBy F.order F.keeps self bytes
             → MatchResult result
@@ -174,7 +174,7 @@ impl<F: Front> TextReader<F> {
         Ok(text)
     }
 
-    /// What the text says that was read. What stands behind the last line feed is its last line.
+    /// What the text says that was read. What stands after the last line feed is its last line.
     pub fn finish(self, alloc: Global) -> Result<F::Text, InputRefusal>
         ensures said { (bytes : List ℕ) → HasReadBy F.order F.keeps self bytes
             → MatchResult result (F.says (lines_of bytes)) (RefusedBy F.order (lines_of bytes)) }

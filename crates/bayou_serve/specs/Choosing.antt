@@ -12,7 +12,7 @@ abbrev pub own_in : (server : ℕ) → Answer → ℕ
 own_in server answer = slice_index (count_of answer.gathered.writes) server
 
 -- Of two answers the one with more Writes of this server is chosen, the first where both have as many, if under each of its names that both have
--- they have the same Write. Else both peers are told, and the first name under which they differ.
+-- they have the same Write. Else both peers are named, and the first name under which they differ.
 abbrev pub ChoosesAnswer : (server : ℕ) → (best other : Answer) → Result Answer ServeFault → Type 0
 ChoosesAnswer server best other (Ok chosen) =
     (chosen ≡ (if nat_lt (own_in server best) (own_in server other) then other else best)) × AgreeOnAll best.gathered.writes other.gathered.writes server

@@ -20,7 +20,7 @@ use Rattle.bayou_server.specs.declared.fault.TakeFault.TheVariants as takes
 abbrev pub IsOfJournal : ServeFault → Type 0
 IsOfJournal fault = (fault ≢ Memory) × (fault ≢ Port) × (fault ≢ NoDescriptor) × (fault ≢ Output)
 
--- A start that was refused is told by its own name. Where the device refused a cut, the damage is told in place of the call that failed.
+-- A start that was refused is reported by its own name. Where the device refused a cut, the damage is reported in place of the call that failed.
 abbrev pub told_as : StartFault → Option Damage → ServeFault
 told_as (starts.Journal journals.Device) (Some damage) = Damaged damage
 told_as (starts.Journal journals.Device) None = Device
@@ -31,7 +31,7 @@ told_as (starts.Gap entry) damage = Gap entry
 told_as starts.LogFull damage = LogFull
 told_as starts.OutOfMemory damage = Memory
 
--- a restoring that failed is told by its own name; a file that isn't empty, though it was cut, is one of which a call failed
+-- a restoring that failed is reported by its own name; a file that isn't empty, though it was cut, is one of which a call failed
 abbrev pub unrestored_as : RestoreFault → ServeFault
 unrestored_as (restores.Misfit number) = NotRestored (why.Misfit number)
 unrestored_as restores.LogFull = NotRestored why.LogFull
@@ -39,7 +39,7 @@ unrestored_as restores.Device = NotRestored why.Device
 unrestored_as restores.NotEmpty = NotRestored why.Device
 unrestored_as restores.OutOfMemory = Memory
 
--- a Write of this peer that isn't taken is told by its own name
+-- a Write of this peer that isn't taken is reported by its own name
 abbrev pub untaken_as : (peer : ℕ) → TakeFault → ServeFault
 untaken_as peer takes.Conflict = NotRestored (why.Conflict peer)
 untaken_as peer takes.OwnLost = NotRestored (why.MoreOwn peer)
@@ -50,7 +50,7 @@ untaken_as peer takes.Down = NotRestored why.Device
 untaken_as peer takes.Journal = NotRestored why.Device
 untaken_as peer takes.OutOfMemory = Memory
 
--- what is wrong with a label is told by its own name
+-- what is wrong with a label is reported by its own name
 abbrev pub labelled_as : LabelFault → ServeFault
 labelled_as (labels.OtherStore name) = OtherStore name
 labelled_as labels.NotALabel = NotALabel

@@ -1,7 +1,7 @@
--- When a server is told to fill up: this project's own.
+-- When a server is reported to fill up: this project's own.
 use Rattle.std.specs.Prelude.{◌≡◌, ◌⊎◌, ℕ, ◌*◌, ◌≤◌, List, [], ◌∷◌, All, Contains}
 
--- the steps of fullness that are told, in hundredths of the limit
+-- the steps of fullness that are reported, in hundredths of the limit
 abbrev pub steps : List ℕ
 steps = 90 ∷ 95 ∷ 99 ∷ []
 

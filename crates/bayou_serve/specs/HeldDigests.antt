@@ -13,20 +13,20 @@ pub record HasRead (held : HeldDigests) (origin : ServerId) (writes : List (List
   pub found : slice_get held.origins origin.index ≡ Some digests
   pub are_of : AreDigestsOf digests writes
 
--- what is told of the first so many of these Writes
+-- what is reported of the first so many of these Writes
 abbrev pub digest_at : List (List ℕ) → (count : ℕ) → ℕ
 digest_at writes count = short (digest_of (take count writes))
 
--- that is told where there are so many, and nothing where there are fewer
+-- that is reported where there are so many, and nothing where there are fewer
 pub record TellsAt (writes : List (List ℕ)) (count : ℕ) (told : Option ℕ) : Type 0 where
   pub held : count ≤ length writes → told ≡ Some (digest_at writes count)
   pub beyond : length writes < count → told ≡ None
 
--- there are as many of these Writes as somebody holds of that origin, and their digest isn't the one that was told
+-- there are as many of these Writes as somebody holds of that origin, and their digest isn't the one that was sent
 abbrev pub DifferFrom : List (List ℕ) → Held → ServerId → Type 0
 DifferFrom writes told origin = (slice_index told.vector origin.index ≤ length writes) × (digest_at writes (slice_index told.vector origin.index) ≢ slice_index told.digests origin.index)
 
--- Digests are told at these counts, in their order, up to the first count of which there are fewer Writes.
+-- Digests are sent at these counts, in their order, up to the first count of which there are fewer Writes.
 pub record TellsUpTo (writes : List (List ℕ)) (counts digests : List ℕ) : Type 0 where
   pub number : ℕ
   pub within : number ≤ length counts
@@ -34,7 +34,7 @@ pub record TellsUpTo (writes : List (List ℕ)) (counts digests : List ℕ) : Ty
   pub told : digests ≡ map (digest_at writes) (take number counts)
   pub stopped : IfSome (slice_get counts number) (λ count. length writes < count)
 
--- A span is narrowed by what was told at these counts. The first so many are told as they are of these Writes; the next one, where so many Writes are held, isn't.
+-- A span is narrowed by what was sent at these counts. The first so many digests are those of these Writes; the next one, where so many Writes are held, isn't.
 pub record Narrows (writes : List (List ℕ)) (counts told : List ℕ) (span narrow : Span) : Type 0 where
   pub same : ℕ
   pub within : same ≤ length counts

@@ -1,4 +1,4 @@
--- What a server that lives prints, from its start to a told end: this project's own.
+-- What a server that lives prints, from its start to an end that was asked for: this project's own.
 use Rattle.std.specs.Prelude.{◌≢◌, ℕ, List, ◌++◌}
 use Rattle.bayou_node.specs.declared.node_settled.NodeSettled.{NodeSettled}
 use Rattle.bayou_print.specs.Living.{held_text, serving_text}

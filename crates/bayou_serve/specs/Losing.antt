@@ -11,7 +11,7 @@ use Rattle.bayou_streams.specs.Written.{AppendsFront}
 use Rattle.bayou_wire.specs.declared.frame.Frame.TheVariants.{Offer}
 use Rattle.bayou_wire.specs.Stream.{spelling}
 
--- The server's own Writes behind those that the node may hold were asked for, or a front of that was written; and of the answer a front was
+-- The server's own Writes after those that the node may hold were asked for, or a front of that was written; and of the answer a front was
 -- read, whose first frame tells whether there is one.
 abbrev pub AsksForOwn : Begun → (input written : Option (List ℕ)) → Result Bool ChannelFault → Type 0
 AsksForOwn begun input written answer =

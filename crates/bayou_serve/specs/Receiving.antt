@@ -16,7 +16,7 @@ first_by kind = if kind == KIND_HELLO then Hello else (if kind == KIND_OFFER the
 
 -- A front of the input was read, its requests were done in their order, each with its reply written, and the desk was paid for the Writes
 -- that were made of them and for nothing else. Once the server is known to have lost Writes of its own, none is made any more. How that ended
--- isn't told.
+-- isn't said.
 abbrev pub ServedOver : Begun → (paid_before paid : ℕ) → (input written : Option (List ℕ)) → Type 0
 ServedOver begun paid_before paid input written =
     (answer : Result ℕ ChannelFault) × (rest after : Option (List ℕ)) × (read : List ℕ)

@@ -31,7 +31,7 @@ abbrev pub tells_loss : (server : ℕ) → PullStopped → Bool
 tells_loss server stopped = is_told server stopped.refused stopped.fault
 
 -- What a visit came to whose connection came about, by the bytes that were read of it: the pull took what they bring, up to its End; or it ended early,
--- which is no fault behind some that were taken. That the server lost Writes of its own is told by a pull that ended at one of them, and by no other.
+-- which is no fault after some that were taken. A pull that ended at one of them tells that the server lost Writes of its own, and no other does.
 abbrev pub VisitEnds : Begun → (read : List ℕ) → (is_end : Type 0) → Visit → (has_lost : Bool) → Type 0
 VisitEnds begun read is_end Away has_lost = ⊥
 VisitEnds begun read is_end (Pulled counts) has_lost =

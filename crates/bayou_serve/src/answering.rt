@@ -30,7 +30,7 @@ fn is_of_digests(kind: u8) -> bool
     kind == KIND_DIGESTS || kind == KIND_DIFFERS
 }
 
-// Tells what is held, with digests where these are to be told; whether that was sent.
+// Sends what is held, with digests where these are to be sent; whether that was sent.
 fn tell_known<D: Device, L: Desks, C: Clock, E, T: Wait>(
     rt: &T,
     alloc: Global,
@@ -73,7 +73,7 @@ fn heed_difference<'a, T: Wait>(
     None
 }
 
-// The peer has other Writes of this origin: that is told, and heeded where it is this server. What comes back shows that it is.
+// The peer has other Writes of this origin: that is reported, and heeded where it is this server. What comes back shows that it is.
 fn meet_difference<'a, D: Device, L: Desks, C: Clock, E: Write, T: Wait>(
     rt: &T,
     alloc: Global,
@@ -171,13 +171,13 @@ fn answer_peer<D: Device, L: Desks, C: Clock, E: Write, T: Wait>(
     let told = comparison.difference(rt, theirs, peer).unwrap_or(origin);
     let mut channel = CountedChannel::new((), stream);
     if say(alloc, &Greeting::Differs(told), &mut channel).is_some() {
-        // Nothing that is asked behind that is served.
+        // Nothing that is asked after that is served.
         let _ = answer_inquiries(rt, alloc, reception, peer, stream);
     }
     false
 }
 
-/// Answers who greeted and was let in: whether it may ask, and was told what is held. A peer that told its digests is told this server's too, if it holds
+/// Answers who greeted and was let in: whether it may ask, and learned what is held. A peer that told its digests learns this server's too, if it holds
 /// the same Writes, and else that it doesn't.
 pub(crate) fn answer_guest<D, L, C, E, T>(
     rt: &T,

@@ -30,7 +30,7 @@ struct Apart {
     origin: ServerId,
     /// How many of its Writes both hold.
     count: u32,
-    /// Of which origin the peer is told so, if it doesn't know.
+    /// Of which origin the peer is to learn this, if it doesn't know.
     told: Option<ServerId>,
 }
 
@@ -112,7 +112,7 @@ fn meet_apart<M: Device, E: Write, T: Wait + Clock>(
     apart.origin
 }
 
-// Whether other Writes are held than the peer made known; one that tells no digests isn't compared, which is told once.
+// Whether other Writes are held than the peer made known; one that tells no digests isn't compared, which is reported once.
 fn compare<M: Device, E: Write, T: Wait>(
     rt: &T,
     alloc: Global,
@@ -141,7 +141,7 @@ fn compare<M: Device, E: Write, T: Wait>(
     apart_of(rt, comparison, own, peer.id, &theirs)
 }
 
-// Compares what the peer made known, and gives the origin of which other Writes are held, which both were told.
+// Compares what the peer made known, and gives the origin of which other Writes are held, which both learned.
 fn meet_known<M: Device, E: Write, T: Wait + Clock>(
     rt: &T,
     alloc: Global,
@@ -156,8 +156,8 @@ fn meet_known<M: Device, E: Write, T: Wait + Clock>(
     Some(meet_apart(rt, alloc, visiting, peer.id, apart, stream))
 }
 
-/// As [`way_to`], to a peer that is told the digests of what the node holds. Where either end finds that the other has other Writes, there is no way,
-/// and that is told; if they are this server's own, it takes no Write any more.
+/// As [`way_to`], to a peer that learns the digests of what the node holds. Where either end finds that the other has other Writes, there is no way,
+/// and that is reported; if they are this server's own, it takes no Write any more.
 pub(crate) fn compared_way_to<D, L, M, E, T>(
     rt: &T,
     alloc: Global,

@@ -20,14 +20,14 @@ use std::sync::atomic::{AtomicU64, Ordering};
 use std::sync::{Mutex, Wait};
 use std::time::Clock;
 
-/// What was told of a peer's other Writes of one origin: when, and from which Write on, 0 where that isn't known.
+/// What was reported of a peer's other Writes of one origin: when, and from which Write on, 0 where that isn't known.
 #[derive(Drop)]
 struct Difference {
     told: Notice,
     first: AtomicU64,
 }
 
-// Where it stands what was told of this peer and this origin.
+// The place of what was reported of this peer and this origin.
 fn place_of(peer: ServerId, origin: ServerId) -> usize
     ensures place { result ≡ peer.index * SERVERS + origin.index }
     ensures within { result < SERVERS * SERVERS }
@@ -44,7 +44,7 @@ fn first_of(kept: u64) -> Option<u64>
 }
 
 impl Difference {
-    // Whether it is to be told now: at first, each minute, and as soon as it is known from which Write on.
+    // Whether to report it now: at first, each minute, and as soon as it is known from which Write on.
     fn is_due<C: Clock>(&self, clock: &C, first: Option<u32>) -> bool {
         let is_due = self.told.is_due(clock);
         match first {
@@ -58,15 +58,15 @@ impl Difference {
     }
 }
 
-/// The digests of what a server holds, and what was told of its peers, as its threads share them.
+/// The digests of what a server holds, and what was reported of its peers, as its threads share them.
 #[derive(Drop)]
 pub(crate) struct Comparison {
     digests: Mutex<HeldDigests>,
     /// Of each server and each origin.
     differences: Vec<Difference>,
-    /// Of which servers it was told that they tell no digests.
+    /// Of which servers it was reported that they tell no digests.
     untold: [AtomicU64; SERVERS],
-    /// Whether it was told that memory is wanting.
+    /// Whether it was reported that memory is wanting.
     is_short: AtomicU64,
 }
 
@@ -104,7 +104,7 @@ fn difference_line(
     }
 }
 
-// Nothing was told yet of any server and origin.
+// Nothing was reported yet of any server and origin.
 fn no_differences(alloc: Global) -> Result<Vec<Difference>, AllocError>
     ensures { IfOk result (λ differences. vec_len differences ≡ SERVERS * SERVERS) }
 {
@@ -119,7 +119,7 @@ fn no_differences(alloc: Global) -> Result<Vec<Difference>, AllocError>
 }
 
 impl Comparison {
-    /// Of a server of which nothing was read, and nothing told.
+    /// Of a server of which nothing was read, and nothing reported.
     pub(crate) fn new(alloc: Global) -> Result<Self, AllocError>
         ensures { IfOk result (λ comparison. vec_len comparison.differences ≡ SERVERS * SERVERS) }
     {
@@ -149,7 +149,7 @@ impl Comparison {
         Ok(())
     }
 
-    /// What the node holds, with its digests; nothing where memory is wanting, which is told once. Then nothing is compared this time.
+    /// What the node holds, with its digests; nothing where memory is wanting, which is reported once. Then nothing is compared this time.
     pub(crate) fn held<D: Device, L: Desks, E: Write, T: Wait>(
         &self,
         rt: &T,

@@ -1,4 +1,4 @@
-//! A device of which nobody is told anything before all of it is synced at once.
+//! A device of which nobody hears anything before all of it is synced at once.
 ghost use Rattle.std.specs.Prelude.{◌≡◌, ◌++◌, Err, IfOk, IsErrOf, Ok, OnErr, OnOk};
 ghost use Rattle.bayou_device.specs.Device.{Rose};
 

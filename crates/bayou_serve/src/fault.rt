@@ -23,7 +23,7 @@ pub enum Unrestored {
     /// Under this number these two servers have other Writes of this one: it gave the name twice.
     #[error("servers {one} and {other} have different Writes {number} of this server")]
     Differ { one: u8, other: u8, number: u32 },
-    /// The own Write of this number can't have been made behind those that it counts.
+    /// The own Write of this number can't have been made after those that it counts.
     #[error("the peers' Write {0} of this server can't be its own")]
     Misfit(u32),
     /// This server has another Write under the name of one that another server has.
@@ -63,7 +63,7 @@ pub enum ServeFault {
     /// A call of the file failed.
     #[error("a call of the file failed")]
     Device,
-    /// What stands behind the whole entries is more than one that was torn.
+    /// What stands after the whole entries is more than one that was torn.
     #[error("{0}")]
     Damaged(Damage),
     #[error("it is no journal")]
@@ -168,7 +168,7 @@ impl From<RestoreFault> for ServeFault {
     }
 }
 
-/// What a Write of this peer is told as that a server which is restored doesn't take.
+/// The fault of a Write of this peer that a server which is restored doesn't take.
 pub(crate) fn untaken(peer: ServerId, fault: TakeFault) -> ServeFault
     ensures { result ≡ untaken_as peer.index fault }
 {
@@ -183,7 +183,7 @@ pub(crate) fn untaken(peer: ServerId, fault: TakeFault) -> ServeFault
     ServeFault::NotRestored(why)
 }
 
-/// What a start that was refused is told as. A device that refused a cut tells the damage.
+/// What a start that was refused is reported as. A device that refused a cut tells the damage.
 pub(crate) fn fault_of(refused: StartFault, damage: Option<Damage>) -> ServeFault
     ensures { result ≡ told_as refused damage }
 {

@@ -1,4 +1,4 @@
-//! How full a server is, and what of that is to be told.
+//! How full a server is, and what of that is reported.
 ghost use Rattle.std.specs.Prelude.{◌≡◌, ℕ, None, Some, if◌then◌else◌, max, nat_lt};
 ghost use Rattle.bayou_serve.specs.Fullness.{IsFullness};
 
@@ -18,21 +18,21 @@ fn fullness(held: u32, limit: u32) -> u8
     }
 }
 
-/// Which step of fullness was told last; 0 before the first.
+/// Which step of fullness was reported last; 0 before the first.
 #[derive(Clone, Copy, Debug, PartialEq, Eq)]
 pub struct Filling {
     told: u8,
 }
 
 impl Filling {
-    /// None was told yet.
+    /// None was reported yet.
     pub fn new() -> Self
         ensures { result.told ≡ 0 }
     {
         Filling { told: 0 }
     }
 
-    /// The step that is to be told of so many Writes, if one is: a greater one than was told. It is told then.
+    /// The step to report of so many Writes, if any: a greater one than was reported. It counts as reported then.
     pub fn step_to_tell(&mut self, held: u32, limit: u32) -> Option<u8>
         ensures { (full : ℕ) × IsFullness held limit full × (result ≡ (if nat_lt self.old.told full then Some full else None)) × (self.new.told ≡ max self.old.told full) }
     {

@@ -75,7 +75,7 @@ fn receive_over<'x, R: Read + Drop, W: Write + Drop, C: Clock>(
     receive(alloc, own, nonce, &mut channel).ok()
 }
 
-/// Greets who asks over this connection, as this server: who it is, once it is let in. What is held it isn't told yet.
+/// Greets who asks over this connection, as this server: who it is, once it is let in. It doesn't learn yet what is held.
 pub(crate) fn receive_guest<C: Clock + RandomSource>(
     alloc: Global,
     own: &StoreServer,
@@ -143,7 +143,7 @@ pub(crate) enum Way {
         stream: TcpStream,
         origin: ServerId,
     },
-    /// It is that peer, and one of both has other Writes of this origin than the other, which both were told.
+    /// It is that peer, and one of both has other Writes of this origin than the other, which both learned.
     Apart(ServerId),
 }
 
@@ -165,7 +165,7 @@ fn greet_at<T: Clock + RandomSource>(
     greet_over(alloc, own, &hello, held, hall, rt, &since, stream, stream)
 }
 
-// A way to the peer, which is greeted, and told this of what is held; nothing where it ended the connection at that.
+// A way to the peer, which is greeted, and learns this of what is held; nothing where it ended the connection at that.
 fn greeted_way_to<T: Clock + RandomSource + Sockets>(
     rt: &T,
     alloc: Global,
@@ -192,7 +192,7 @@ fn greeted_way_to<T: Clock + RandomSource + Sockets>(
     }
 }
 
-/// A way to the peer, which is greeted first, and told this of what is held. One that ends the connection at that, and again at the next, is taken for an
+/// A way to the peer, which is greeted first, and learns this of what is held. One that ends the connection at that, and again at the next, is taken for an
 /// older one: at an open store it is asked all the same, over a connection of its own; at one that has a key there is no way but to a peer that has it too.
 pub(crate) fn way_to<T: Clock + RandomSource + Sockets>(
     rt: &T,
@@ -229,7 +229,7 @@ fn older_way_to<T: Sockets>(rt: &T, peer: Peer) -> Way
     }
 }
 
-/// What was told of a peer beside its visits: who answered in its place, and that it is older.
+/// What was reported of a peer beside its visits: who answered in its place, and that it is older.
 #[derive(Drop)]
 pub(crate) struct Strangers {
     last: Option<Stranger>,
@@ -237,7 +237,7 @@ pub(crate) struct Strangers {
 }
 
 impl Strangers {
-    /// Of a peer of which nothing was told yet.
+    /// Of a peer of which nothing was reported yet.
     pub(crate) fn new() -> Self
         ensures { (result.last ≡ None) × (result.is_older ≡ false) }
     {

@@ -22,9 +22,9 @@ pub struct Hall {
     pub lost: OnceLock<()>,
     /// Set once its journal's file is known to be no more what it wrote.
     pub strayed: OnceLock<()>,
-    /// When it was told last that a connection can't be taken.
+    /// When a line last said that a connection can't be taken.
     pub untaken: Notice,
-    /// When it was told last that connections wait.
+    /// When a line last said that connections wait.
     pub full: Notice,
     busy: AtomicU64,
     desks: u64,

@@ -84,7 +84,7 @@ impl HeldDigests {
         self.read
     }
 
-    // Adds the next Write. Want of memory is the only refusal, and changes nothing that is told.
+    // Adds the next Write. Want of memory is the only refusal, and changes nothing that is reported.
     fn add(&mut self, alloc: Global, write: &RestingWrite) -> Result<(), AllocError>
         ensures own { (writes : List (List ℕ)) → HasRead self.old write.now.wid.origin writes → OnOk result (HasRead self.new write.now.wid.origin (writes ++ write_bytes write.now ∷ [])) }
         ensures others { (origin : Server) (writes : List (List ℕ)) → ¬ (origin.index ≡ write.now.wid.origin.index) → HasRead self.old origin writes → HasRead self.new origin writes }
@@ -98,7 +98,7 @@ impl HeldDigests {
         Ok(())
     }
 
-    /// Adds the Writes that stand behind so many, if no others were added there meanwhile. Where memory is wanting, those before are added.
+    /// Adds the Writes that stand after so many, if no others were added there meanwhile. Where memory is wanting, those before are added.
     pub fn add_behind(
         &mut self,
         alloc: Global,
@@ -187,7 +187,7 @@ impl HeldDigests {
         digests
     }
 
-    /// Where the first Write of the origin that differs is, by what was told of these counts of the span; nothing where not all of them were told.
+    /// Where the first Write of the origin that differs is, by the digests that came of these counts of the span; nothing where not all came.
     pub fn narrowed(
         &self,
         origin: ServerId,

@@ -1,4 +1,4 @@
-//! What keeps a server going: its journal is opened again behind a fault of the device, and it is told when it fills up, and that it lost Writes of
+//! What keeps a server going: its journal is opened again after a fault of the device, and lines report when it fills up, and that it lost Writes of
 //! its own.
 ghost use Rattle.std.specs.Prelude.{◌≡◌, ◌-◌, ℕ, if◌then◌else◌, max, nat_eq, sum};
 ghost use Rattle.bayou_base.specs.declared.limits.TheConstants.{LOOK_SECONDS, LOST_SECONDS};
@@ -33,7 +33,7 @@ fn sum_of(vector: &Vector) -> u32
     sum
 }
 
-// Tells how full the server is, where that is more than what was told.
+// Tells how full the server is, where that is more than what was reported.
 fn tell_fullness<D: Device, L: Desks, E: Write, T: Wait>(
     rt: &T,
     alloc: Global,
@@ -83,8 +83,8 @@ fn rest_until_look<T: Clock>(rt: &T, hall: &Hall, has_lost: bool) {
 }
 
 /// Once Writes may be made, opens the journal again, where a fault of the device took the server down and its file hasn't strayed, and tells when the
-/// server fills up, and that it lost Writes of its own, until it ends. Which step is told is [`Filling`]'s, and when a loss is told again [`Reminder`]'s; that it is told, and that a journal is opened
-/// again, no clause can say.
+/// server fills up, and that it lost Writes of its own, until it ends. [`Filling`] says which step is reported, and [`Reminder`] when a loss is reported
+/// again. No clause can say that it is, nor that a journal is opened again.
 pub(crate) fn keep_up<D: Device, L: Desks, M: Device, E: Write, T: Wait + Clock>(
     rt: &T,
     alloc: Global,

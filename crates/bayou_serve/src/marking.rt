@@ -13,7 +13,7 @@ use std::fs;
 use std::fs::{File, Files};
 use std::sync::{Mutex, OnceToken, Wait};
 
-/// What is told where the mark can't be made.
+/// What is reported where the mark can't be made.
 pub(crate) const UNMARKED: &str =
     "bayou: the .mark of that can't be written: a restart may not know it\n";
 

@@ -1,4 +1,4 @@
-//! When what lasts is told again.
+//! When what lasts is reported again.
 ghost use Rattle.std.specs.Prelude.{◌≡◌, ◌+◌, ◌-◌, ◌*◌, ◌^◌, ◌<◌, ◌≤◌, min, None, Some};
 ghost use Rattle.bayou_base.specs.declared.limits.TheConstants.{NOTICE_SECONDS};
 
@@ -7,7 +7,7 @@ use bayou_base::limits::NOTICE_SECONDS;
 use std::sync::atomic::{AtomicU64, Ordering};
 use std::time::Clock;
 
-// From which moment on a line may be told again that may be told now, since it may from that one on.
+// From which moment on a line may be reported again, if it may be reported now: from `due` on it may.
 fn due_behind(now: u64, due: u64) -> Option<u64>
     ensures early { now < due → result ≡ None }
     ensures next { due ≤ now → result ≡ Some (min (now + NOTICE_SECONDS * 1_000) (2 ^ 64 - 1)) }
@@ -18,12 +18,12 @@ fn due_behind(now: u64, due: u64) -> Option<u64>
     Some(now.saturating_add(u64::from(NOTICE_SECONDS) * 1_000))
 }
 
-/// From which moment on a line about what lasts may be told, in milliseconds of a clock. Threads share it: one of them tells the line.
+/// From which moment on a line about what lasts may be reported, in milliseconds of a clock. Threads share it: one of them tells the line.
 #[derive(Drop)]
 pub struct Notice(AtomicU64);
 
 impl Notice {
-    /// It wasn't told yet.
+    /// It wasn't reported yet.
     pub fn new() -> Self {
         Notice(AtomicU64::new(0))
     }

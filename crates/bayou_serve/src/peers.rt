@@ -48,9 +48,9 @@ pub(crate) fn rest<T: Clock>(rt: &T, hall: &Hall, seconds: u32) {
     }
 }
 
-/// Whether reads at the socket end in time, and writes behind so many milliseconds.
+/// Whether reads at the socket end in time, and writes after so many milliseconds.
 pub(crate) fn is_timed(stream: &TcpStream, write_milliseconds: u64) -> bool {
-    // A socket that can't be told so sends small pieces later.
+    // A socket that doesn't take this option sends small pieces later.
     let _ = stream.set_nodelay(true);
     let tick = Duration::from_millis(TICK_MILLISECONDS);
     let write = Duration::from_millis(write_milliseconds);

@@ -51,7 +51,7 @@ pub(crate) struct Reception<'a, D, L: Desks, C, E> {
     pub(crate) without: Option<ServerId>,
 }
 
-/// That requests of a connection may reach the node: who asks greeted, was let in and was told what is held; or the store is open. Nothing is served
+/// That requests of a connection may reach the node: who asks greeted, was let in and learned what is held; or the store is open. Nothing is served
 /// without one.
 #[derive(Drop)]
 pub(crate) struct Admission<'a> {

@@ -1,24 +1,24 @@
-//! When it is told again that a server lost Writes of its own.
+//! When a line says again that a server lost Writes of its own.
 ghost use Rattle.std.specs.Prelude.{◌≡◌, ◌-◌, ◌↔◌, if◌then◌else◌, nat_eq, true};
 ghost use Rattle.bayou_base.specs.declared.limits.TheConstants.{LOOK_SECONDS, LOST_SECONDS};
 
 use bayou_base::limits::{LOOK_SECONDS, LOST_SECONDS};
 
-/// How many seconds are left until it is told again; none before it was told.
+/// How many seconds are left until it is reported again; none before it was reported.
 #[derive(Clone, Copy, Debug, PartialEq, Eq)]
 pub struct Reminder {
     left: u32,
 }
 
 impl Reminder {
-    /// It wasn't told yet.
+    /// It wasn't reported yet.
     pub fn new() -> Self
         ensures { result.left ≡ 0 }
     {
         Reminder { left: 0 }
     }
 
-    /// Whether it is to be told at this look, behind which the next one comes [`LOOK_SECONDS`] later.
+    /// Whether to report it at this look, after which the next one comes [`LOOK_SECONDS`] later.
     pub fn look(&mut self) -> bool
         ensures due { result ≡ true ↔ self.old.left ≡ 0 }
         ensures left { self.new.left ≡ (if nat_eq self.old.left 0 then LOST_SECONDS else self.old.left) - LOOK_SECONDS }

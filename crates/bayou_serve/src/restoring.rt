@@ -92,7 +92,7 @@ fn gather_from<T: Clock + RandomSource + Sockets>(
     ensures { (answer : Result Gatherer PullFailure) → result ≡ Answered answer → IfOk answer (λ gathered. gathered.count ≡ plan.now.servers) }
 {
     let stream = match way_to(rt, alloc, own, peer, hall, None) {
-        // Who tells no digests isn't told that it differs.
+        // Who tells no digests doesn't hear that it differs.
         Way::Away | Way::Differs { .. } | Way::Apart(_) => return Gathering::Away,
         Way::Stranger(stranger) => return Gathering::Stranger(stranger),
         Way::Open { stream, .. } => stream,
@@ -131,7 +131,7 @@ fn with_answer(best: Option<Answer>, more: Answer, id: ServerId) -> Result<Answe
     }
 }
 
-/// Who asks, for which server, and where it is told.
+/// Who asks, for which server, and where it reports.
 #[derive(Drop)]
 struct Asking<'a, E> {
     plan: &'a Plan,
@@ -140,7 +140,7 @@ struct Asking<'a, E> {
     teller: &'a Teller<E>,
 }
 
-// All that the peer has. One that is away, isn't that peer, or ends its answer early is told, and ends it: it may have what nobody else has.
+// All that the peer has. One that is away, isn't that peer, or ends its answer early is reported, and ends it: it may have what nobody else has.
 fn answer_of<E: Write, T: Wait + Clock + RandomSource + Sockets>(
     rt: &T,
     alloc: Global,

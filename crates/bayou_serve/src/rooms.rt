@@ -150,7 +150,7 @@ impl Room {
         }
     }
 
-    // Waits for a place, until the server ends. Whoever asks nothing for a second is called out for it at once, and behind each second of waiting
+    // Waits for a place, until the server ends. Whoever asks nothing for a second is called out for it at once, and after each second of waiting
     // whoever asks nothing the longest.
     fn wait<C: Clock>(&self, clock: &C, hall: &Hall) -> Option<&Place>
         ensures { IfSome result (λ place. Contains self.now.places.items place.now) }

@@ -19,7 +19,7 @@ use std::alloc::Global;
 use std::io::{Read, Write};
 use std::sync::Wait;
 
-/// How often a peer is asked for digests at the most behind one greeting. Sixteen counts at once make a seventeenth of what is left, so that four
+/// How often a peer is asked for digests at the most after one greeting. Sixteen counts at once make a seventeenth of what is left, so that four
 /// times are enough for a full store.
 pub(crate) const MAX_INQUIRIES: u32 = 8;
 

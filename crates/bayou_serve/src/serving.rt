@@ -51,7 +51,7 @@ use std::thread;
 use std::thread::{Scope, Threads};
 use std::time::Clock;
 
-/// What is served, and by what it is told when to end.
+/// What is served, and what says when it ends.
 #[derive(Drop)]
 struct Life<'s, D, L: Desks, M: Device, E> {
     plan: &'s Plan,
@@ -85,7 +85,7 @@ fn print<W: Write>(output: &mut Output<W>, line: &str) -> Result<(), ServeFault>
     }
 }
 
-// Begins to ask each peer and to pull from it, and to keep the server up, each in a thread of its own. What has no thread is told.
+// Begins to ask each peer and to pull from it, and to keep the server up, each in a thread of its own. What has no thread is reported.
 fn begin_beside<'s, Env, D, L, M, E, T>(
     scope: &'s Scope<'s, Env>,
     rt: &'s T,
@@ -359,7 +359,7 @@ fn give_back<W>(output: &mut Output<W>)
     let _ = output;
 }
 
-// Serves at each desk until the server is told to end, and tells how it began; where it didn't begin it ends at once. The copy of its socket is there
+// Serves at each desk until the server is asked to end, and tells how it began; where it didn't begin it ends at once. The copy of its socket is there
 // before, since one may not be had then.
 fn live_begun<D, L, M, I, W, E, T>(
     rt: &T,
@@ -434,7 +434,7 @@ fn threads_of(plan: &Plan) -> u32
         .saturating_add(WAITING_CONNECTIONS)
 }
 
-// Serves the node from its first connection to a told end, and prints what its books come to. It tells whether anybody may have been served.
+// Serves the node from its first connection to an end that was asked for, and prints what its books come to. It tells whether anybody may have been served.
 fn serve_node<L, M, I, W, E, T>(
     rt: &T,
     alloc: Global,
@@ -614,9 +614,9 @@ pub struct Paths<'a> {
 }
 
 /// Serves what the plan says, as a server of the store that has this key, or of an open one, with the journal in this file, until the input ends, where the
-/// plan asks for that, or for ever. What is told beside the printed lines goes to the teller. A server that is marked beside its journal as one that lost
+/// plan asks for that, or for ever. What is reported beside the printed lines goes to the teller. A server that is marked beside its journal as one that lost
 /// Writes of its own isn't served, but for one whose journal is made again; nor is one whose label says that it is of another store. That anybody is
-/// served no clause can say, nor that it ends where it was told to.
+/// served no clause can say, nor that it ends where it is asked to.
 pub fn serve_plan<I, W, E, T>(
     rt: &T,
     alloc: Global,

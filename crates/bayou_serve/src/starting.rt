@@ -22,7 +22,7 @@ use std::io::ErrorKind;
 /// The device of a server that lives.
 pub(crate) type Careful<'e> = CarefulDevice<Watched<'e, FileDevice<File>>>;
 
-/// A server with its journal in a file, and how many bytes of a torn entry were cut; all its bytes were there, where it is told by itself.
+/// A server with its journal in a file, and how many bytes of a torn entry were cut; an entry that had all its bytes is reported by itself.
 #[derive(Drop)]
 pub(crate) struct Started<'e> {
     pub(crate) server: Server<Careful<'e>>,

@@ -1,4 +1,4 @@
-//! How a server that serves is told to end: its input ends.
+//! How a server that serves learns that it is to end: its input ends.
 ghost use Rattle.std.specs.Thread.{IsSend};
 
 use crate::hall::Hall;

@@ -74,7 +74,7 @@ fn is_same(one: Identity, other: Identity) -> bool
     one.device == other.device && one.node == other.node
 }
 
-/// What became of the file, of which this was found under its name, if anything did. Before and behind that it was known so far how long it is.
+/// What became of the file, if anything did, where this was found under its name. Before and after that its length was known within these bounds.
 pub fn straying_of(
     found: Option<Sight>,
     own: Identity,
@@ -147,7 +147,7 @@ fn tell_straying<E: Write, T: Wait>(
 }
 
 /// Looks every so many seconds whether the journal is still what the server wrote, until it ends. Where it isn't, no Write is taken from then on,
-/// and that is told each minute. When it is found no clause can say: what is written until then goes where nobody will find it.
+/// and that is reported each minute. When it is found no clause can say: what is written until then goes where nobody will find it.
 pub(crate) fn keep_watch<E: Write, T: Wait + Clock + Files<File = File>>(
     rt: &T,
     alloc: Global,

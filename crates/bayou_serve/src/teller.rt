@@ -4,7 +4,7 @@ use std::alloc::AllocError;
 use std::io::Write;
 use std::sync::{Mutex, Wait};
 
-/// Where threads tell whole lines: each is one write, behind one lock. What was told no clause can say: others tell there too.
+/// Where threads tell whole lines: each is one write, behind one lock. No clause can say what stands there: others tell there too.
 #[derive(Drop)]
 pub struct Teller<E>(Mutex<E>);
 
@@ -16,7 +16,7 @@ impl<E: Write> Teller<E> {
 
     /// Tells a line, as far as it can be written.
     pub fn tell<T: Wait>(&self, rt: &T, line: &str) {
-        // Where it can't be told nothing else is to be done.
+        // Where it can't be reported nothing else is to be done.
         let _ = self.0.lock(rt).write_all(line.as_bytes());
     }
 

@@ -13,14 +13,14 @@ use bayou_server::TakeFault;
 pub enum Visit {
     /// No connection came about.
     Away,
-    /// So many Writes were taken, and so many were held already. Where the pull ended early behind some that were taken, the next one goes on
+    /// So many Writes were taken, and so many were held already. Where the pull ended early after some that were taken, the next one goes on
     /// there, so that is no fault.
     Pulled(Pulled),
     /// The pull ended early, and nothing was taken.
     Failed(PullFault),
 }
 
-/// What is known behind a visit to a peer.
+/// What is known after a visit to a peer.
 #[derive(Clone, Copy, Debug, PartialEq, Eq)]
 pub struct Outcome {
     pub visit: Visit,
@@ -28,7 +28,7 @@ pub struct Outcome {
     pub has_lost: bool,
 }
 
-/// What is told of a peer.
+/// What is reported of a peer.
 #[derive(Clone, Copy, Debug, PartialEq, Eq)]
 pub enum News {
     Away,
@@ -64,7 +64,7 @@ fn is_loss(server: ServerId, stopped: &PullStopped) -> bool
     }
 }
 
-/// What is known behind a visit of this server whose pull ended so.
+/// What is known after a visit of this server whose pull ended so.
 pub fn outcome_of(server: ServerId, ended: Result<Pulled, PullStopped>) -> Outcome
     ensures whole { IfOk ended (λ pulled. (result.visit ≡ Came pulled) × (result.has_lost ≡ false)) }
     ensures some { IfErr ended (λ stopped. 0 < stopped.before.taken → result.visit ≡ Came stopped.before) }
@@ -81,7 +81,7 @@ pub fn outcome_of(server: ServerId, ended: Result<Pulled, PullStopped>) -> Outco
     }
 }
 
-// What is to be told of a visit behind the last one: that the peer's state changed, or that Writes came.
+// What to report of a visit after the last one: that the peer's state changed, or that Writes came.
 fn news_behind(last: Option<Visit>, visit: Visit) -> Option<News>
     ensures none { result ≡ None ↔ IsNoNews last visit }
     ensures told { IfSome result (Tells last visit) }
@@ -117,7 +117,7 @@ impl Acquaintance {
         Acquaintance { last: None }
     }
 
-    /// Has one visit more behind it: what is to be told of that, if anything is.
+    /// Has seen one visit more: what to report of that, if anything.
     pub fn visited(&mut self, visit: Visit) -> Option<News>
         ensures last { self.new.last ≡ Some visit }
         ensures none { result ≡ None ↔ IsNoNews self.old.last visit }

@@ -228,7 +228,7 @@ pub struct Heard<'a, R, C> {
 }
 
 impl<'a, R, C> Heard<'a, R, C> {
-    /// The reader, of which it is noted at the place when something comes.
+    /// The reader; the place notes when something comes.
     pub(crate) fn new(reader: R, clock: &'a C, place: &'a Place) -> Self
         ensures { result.reader ≡ reader }
     {
@@ -263,7 +263,7 @@ pub struct Told<'a, W, P, C> {
 }
 
 impl<'a, W, P, C> Told<'a, W, P, C> {
-    /// The writer, of which it is noted at the place how it gets on.
+    /// The writer; the place notes how it gets on.
     pub(crate) fn new(writer: W, patience: P, clock: &'a C, place: &'a Place) -> Self
         ensures { result.writer ≡ writer }
     {

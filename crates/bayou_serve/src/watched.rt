@@ -6,7 +6,7 @@ use bayou_device::{Device, Failed, ReadFault};
 use std::alloc::Global;
 use std::sync::atomic::{AtomicU64, Ordering};
 
-/// How many bytes a file has, at least and at most: while a call is under way, and behind one that failed, it isn't known more closely.
+/// How many bytes a file has, at least and at most: while a call is under way, and after one that failed, it isn't known more closely.
 #[derive(Clone, Copy, Debug, PartialEq, Eq)]
 pub struct Bounds {
     pub least: u64,

@@ -42,7 +42,7 @@ write_refusal writing.LogFull = refusals.LogFull
 write_refusal writing.OutOfMemory = refusals.OutOfMemory
 write_refusal writing.Journal = refusals.Journal
 
--- whatever fault the journal has, it is told as one
+-- whatever fault the journal has, it is reported as one
 abbrev pub reopen_refusal : ReopenFault → Refusal
 reopen_refusal reopen.NotDown = refusals.NotDown
 reopen_refusal (reopen.Journal fault) = refusals.Journal

@@ -35,7 +35,7 @@ pub record IsHonestServerDevice {D : Type 0} (d : Ghosts D) (id : ℕ) (held : L
   pub stores_doubt : StoresDoubt id body doubt
   pub honest : journals.IsHonestDevice d id bodies (list_of body) device
 
--- the device has the server's journal, with the Writes held and nothing else, all of it kept; its next entry stands behind that digest
+-- the device has the server's journal, with the Writes held and nothing else, all of it kept; its next entry stands after that digest
 pub record IsWholeDevice {D : Type 0} (d : Ghosts D) (id : ℕ) (held : List Record) (last : List ℕ) (device : D) : Type 0 where
   pub bodies : List Body
   pub stores : Stores id bodies held
@@ -56,7 +56,7 @@ pub record KeepsWrites {D : Type 0} (d : Ghosts D) (id : ℕ) (held : List Recor
   pub stores : Stores id bodies held
   pub keeps : journals.KeepsBodies d id bodies device
 
--- what a server that is up keeps on its device, and one that is down, whatever its failed calls left behind that
+-- what a server that is up keeps on its device, and one that is down, whatever its failed calls left after that
 abbrev pub IsKept : {D : Type 0} → Ghosts D → (id : ℕ) → (held : List Record) → Option Record → (last : List ℕ) → (device : D) → Type 0
 IsKept d id held None last device = IsWholeDevice d id held last device
 IsKept d id held (Some doubt) last device = KeepsWrites d id held device
@@ -65,8 +65,8 @@ IsKept d id held (Some doubt) last device = KeepsWrites d id held device
 abbrev pub IsKeptServer : {D : Type 0} → Ghosts D → ServerState D → Type 0
 IsKeptServer d server = IsKept d server.core.id (records_of server.core) (record_in_doubt server.core) server.last server.device
 
--- The device of a server crashed, maybe as the entry of the Write in doubt was being stored: it keeps what it kept, and behind that stands
--- any tail. In what is kept behind the bodies of the Writes held, whatever their versions, and the tail, nothing goes on from them but
+-- The device of a server crashed, maybe as the entry of the Write in doubt was being stored: it keeps what it kept, and after that stands
+-- any tail. In what is kept after the bodies of the Writes held, whatever their versions, and the tail, nothing goes on from them but
 -- a body of the Write in doubt.
 abbrev pub HasCrashed : {D : Type 0} → Ghosts D → (id : ℕ) → (held : List Record) → (doubt : Option Record) → (old new : D) → Type 0
 HasCrashed d id held doubt old new = (bodies : List Body) → Stores id bodies held → (body : Option Body) × StoresDoubt id body doubt × journals.HasCrashed d id bodies (list_of body) old new

@@ -21,8 +21,8 @@ use Rattle.bayou_wire.specs.declared.lookup.Fate.{Fate}
 use Rattle.bayou_wire.specs.declared.lookup.Page.{Page}
 use Rattle.bayou_wire.specs.declared.lookup.Placed.{Placed}
 
--- the rows are told: the first of those that the Writes held make and that are asked for, as many as are told at once or are asked for; whether
--- one is left behind them; and what was held
+-- the rows are listed: the first of those that the Writes held make and that are asked for, as many as are listed at once or are asked for; whether
+-- one is left after them; and what was held
 pub record TellsRows (core : Core) (need prefix : List ℕ) (after : Option (List ℕ)) (most : ℕ) (page : Page) : Type 0 where
   pub covered : Dominates (count_of core.held) need
   pub rows : page.rows.items ≡ take (min most ROWS_AT_ONCE) (rows_after prefix after (replay core.held))
@@ -34,7 +34,7 @@ abbrev pub Lists : Core → (need prefix : List ℕ) → (after : Option (List �
 Lists core need prefix after most (Ok page) = TellsRows core need prefix after most page
 Lists core need prefix after most (Err behind) = IsBehind core need behind.vector
 
--- what became of the Write is told: what the listing of the Writes held tells of its name; and what was held
+-- what became of the Write is reported: what the listing of the Writes held tells of its name; and what was held
 pub record TellsFate (core : Core) (need : List ℕ) (name : Wid) (told : Told) : Type 0 where
   pub covered : Dominates (count_of core.held) need
   pub listed : TellsOf (listing_of core.held) name told.listed

@@ -23,8 +23,8 @@ Reopens old (Err Lost) new = IsDown old × (new ≡ old)
 Reopens old (Err (BadRecord at)) new = IsDown old × (at ≡ length old.held) × (new ≡ old)
 Reopens old (Err OutOfMemory) new = IsDown old × (new ≡ old)
 
--- Where several Writes are in doubt, the one of the core and behind it others, each another server's: the first is adopted, and of the others
--- those up to one of them, which is told. The rest are forgotten.
+-- Where several Writes are in doubt, the one of the core and after it others, each another server's: the first is adopted, and of the others
+-- those up to one of them, which is reported. The rest are forgotten.
 pub record AdoptsSeveral (old : Core) (taking : List Write) (adopted : Option Wid) (new : Core) : Type 0 where
   pub doubt : Write
   pub is : old.doubt ≡ Some doubt
@@ -39,7 +39,7 @@ pub record AdoptsSeveral (old : Core) (taking : List Write) (adopted : Option Wi
 abbrev pub RecoversAll : (old : Core) → (taking : List Write) → Option Wid → (new : Core) → Type 0
 RecoversAll old taking adopted new = Recovers old adopted new ⊎ AdoptsSeveral old taking adopted new
 
--- a reopening and its answer, where behind the Write in doubt others are
+-- a reopening and its answer, where after the Write in doubt others are
 abbrev pub ReopensAll : (old : Core) → (taking : List Write) → Result Reopened ReopenFault → (new : Core) → Type 0
 ReopensAll old taking (Ok reopened) new = RecoversAll old taking reopened.adopted new
 ReopensAll old taking (Err fault) new = Reopens old (Err fault) new

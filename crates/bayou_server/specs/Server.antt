@@ -30,8 +30,8 @@ pub record Holds : Type 0 where
 abbrev pub holds_of : Core → Holds
 holds_of core = record { held = core.held; tags = core.tags; doubt = core.doubt; doubt_tag = core.doubt_tag }
 
--- The core, its device, and the digest that the next entry of its journal stands behind, which counts while the server is up; and the other
--- Writes in doubt, behind the one that the core has: those that were being stored with it, each another server's, with no tags. There are none
+-- The core, its device, and the digest that the next entry of its journal stands after, which counts while the server is up; and the other
+-- Writes in doubt, after the one that the core has: those that were being stored with it, each another server's, with no tags. There are none
 -- while the server is up.
 pub record ServerState (D : Type 0) : Type 0 where
   pub core : Core

@@ -59,7 +59,7 @@ abbrev pub StoresPieces : {D : Type 0} → Ghosts D → (pieces : ℕ) → (old 
 StoresPieces d zero old new = new ≡ old
 StoresPieces {D} d (suc pieces) old new = (mid : ServerState D) × HasAddedAll d old mid × StoresPieces d pieces mid new
 
--- behind them nothing more was to be added, unless a device call failed
+-- after them nothing more was to be added, unless a device call failed
 abbrev pub StoringEnds : {D : Type 0} → Ghosts D → TakeFault → (mid new : ServerState D) → Type 0
 StoringEnds d Journal mid new = HasFailedAll d mid new
 StoringEnds d Conflict mid new = new ≡ mid

@@ -31,7 +31,7 @@ pub record IsNewRecord (id : ℕ) (tags : List (Option Tag)) (body : Body) (stor
   pub is : IsBodyOf id body stored
   pub new : IsNewTag tags stored.tag
 
--- What is wrong with a body behind those of the Writes held and their tags: it stands for no record, or for one whose tag is used; or
+-- What is wrong with a body after those of the Writes held and their tags: it stands for no record, or for one whose tag is used; or
 -- for one whose Write may not follow; or for one that may, and as many are held as may be.
 abbrev pub RefusesBody : (id count limit : ℕ) → (held : List Write) → (tags : List (Option Tag)) → (body : Body) → StartFault → Type 0
 RefusesBody id count limit held tags body (BadRecord at) = (at ≡ length held) × ((stored : Record) → ¬ IsNewRecord id tags body stored)

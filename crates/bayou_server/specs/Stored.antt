@@ -55,7 +55,7 @@ IsStored d server = (bodies : List Body) × Stores server.core.id bodies (record
 
 -- ---- a Write
 
--- the bytes are the entry, behind that digest, of a body that stands for the record
+-- the bytes are the entry, after that digest, of a body that stands for the record
 pub record IsEntryOf (server : ℕ) (last : List ℕ) (stored : Record) (added : List ℕ) : Type 0 where
   pub body : List ℕ
   pub stands : IsBodyOf server (added_body body) stored
@@ -117,7 +117,7 @@ StoresTaken d old (Err taking.Journal) new = HasFailed d old new
 abbrev pub OpensInCalls : {D : Type 0} → Ghosts D → (id : ℕ) → (old new : D) → Type 0
 OpensInCalls d id old new = journals.OpensInCalls d id old new
 
--- the journal was opened: these bodies were found, and are all that it tells then; its next entry stands behind that digest
+-- the journal was opened: these bodies were found, and are all that it tells then; its next entry stands after that digest
 pub record OpensWith {D : Type 0} (d : Ghosts D) (id : ℕ) (old new : D) (bodies : List Body) (last : List ℕ) : Type 0 where
   pub dropped : ℕ
   pub opened : HasOpened d id old new (record { bodies = bodies; dropped = dropped }) last
@@ -143,16 +143,16 @@ pub record HasOther (core : Core) (doubt : Write) (bodies : List Body) : Type 0 
   pub not_held : ¬ Stores core.id bodies (records_of core)
   pub not_adopted : ¬ Stores core.id bodies (records_with_doubt core doubt)
 
--- the Write in doubt with its tag, and others in doubt behind it
+-- the Write in doubt with its tag, and others in doubt after it
 abbrev pub doubts_of : Core → (doubt : Write) → (taking : List Write) → List Record
 doubts_of core doubt taking = record { write = doubt; tag = core.doubt_tag } ∷ untagged taking
 
--- and where others are in doubt behind it, neither of what is held, of that Write and of a front of them
+-- and where others are in doubt after it, neither of what is held, of that Write and of a front of them
 abbrev pub HasNoFront : (core : Core) → (doubt : Write) → (taking : List Write) → (bodies : List Body) → Type 0
 HasNoFront core doubt taking bodies = (front behind : List Write) → taking ≡ front ++ behind → ¬ Stores core.id bodies (records_of core ++ doubts_of core doubt front)
 
 -- How the device stands after a reopening was answered, and what of its journal the answer comes from. The refusals stand in
--- their order; want of memory may come anywhere behind the first.
+-- their order; want of memory may come anywhere after the first.
 abbrev pub ReopensJournal : {D : Type 0} → Ghosts D → (old : ServerState D) → Result Reopened ReopenFault → (new : ServerState D) → Type 0
 ReopensJournal d old (Ok reopened) new = OpensWithRecords d old.core.id old.device new.device (records_of new.core) new.last
 ReopensJournal d old (Err reopening.NotDown) new = IsUntouched old new

@@ -37,7 +37,7 @@ pub record IsTakable (core : Core) (given : Write) : Type 0 where
   pub room : length core.held < core.limit
 
 -- A given Write, the answer and what it leaves. The answers stand in their order: each says that those before it don't hold. A Write
--- that is taken is held behind the others, with no tag. Where a device call failed, the server is down with that Write in doubt, and holds what it
+-- that is taken is held after the others, with no tag. Where a device call failed, the server is down with that Write in doubt, and holds what it
 -- held. After every other answer it is as it was.
 abbrev pub Takes : (old : Core) → (given : Write) → Result Took TakeFault → (new : Core) → Type 0
 Takes old given (Ok Had) new = Contains old.held given × (new ≡ old)

@@ -42,7 +42,7 @@ TakesEach {S} takes old (write ∷ writes) (took ∷ tooks) new = (mid : S) × t
 TakesEach {S} takes old [] (took ∷ tooks) new = ⊥
 TakesEach {S} takes old (write ∷ writes) [] new = ⊥
 
--- behind the Writes that were taken nothing more was given, and these are left; or one more was given, and refused
+-- after the Writes that were taken nothing more was given, and these are left; or one more was given, and refused
 abbrev pub TakingEnds : {S : Type 0} → (S → Write → Result Took TakeFault → S → Type 0) → (mid : S) → (given front left : List Write) → Option RefusedWrite → (new : S) → Type 0
 TakingEnds takes mid given front left None new = (given ≡ front ++ left) × (new ≡ mid)
 TakingEnds takes mid given front left (Some refused) new = (write : Write) × (given ≡ front ++ write ∷ left) × takes mid write (Err refused.fault) new × (refused.wid ≡ write.wid)

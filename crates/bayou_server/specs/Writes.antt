@@ -16,7 +16,7 @@ use Rattle.bayou_server.specs.declared.fault.WriteFault.TheVariants.{TagUsed, Do
 use Rattle.bayou_server.specs.Reads.{IsBehind}
 use Rattle.bayou_server.specs.Server.{Core, IsDown, IsUp, records_of}
 
--- what is told of a Write: its name and its stamp, and what its server held before it
+-- what is reported of a Write: its name and its stamp, and what its server held before it
 pub record Tells (write : Write) (accepted : Accepted) : Type 0 where
   pub wid : accepted.wid ≡ write.wid
   pub stamp : accepted.stamp ≡ write.stamp
@@ -60,7 +60,7 @@ pub record Makes (core : Core) (need : List ℕ) (program : Program) (made : Wri
   pub next : IsNextWrite core.held core.id program made
   pub spelled : IsWrite made
 
--- The Write is accepted: the answer tells what it was given, and it is held behind the others, with its tag.
+-- The Write is accepted: the answer tells what it was given, and it is held after the others, with its tag.
 pub record Accepts (old : Core) (tag : Tag) (need : List ℕ) (program : Program) (accepted : Accepted) (new : Core) : Type 0 where
   pub made : Write
   pub makes : Makes old need program made

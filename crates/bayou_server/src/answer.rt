@@ -12,10 +12,10 @@ use bayou_wire::{Became, Fate, Placed};
 use std::alloc::{AllocError, Global};
 use std::marker::Model;
 
-/// A program of which there is a Write: what that was given as it was made.
+/// A program that has its Write: what that was given as it was made.
 #[derive(Clone, Copy, Debug, PartialEq, Eq)]
 pub enum Written {
-    /// The Write was made now, and is held behind the others.
+    /// The Write was made now, and is held after the others.
     New(Accepted),
     /// It was made before, under the same tag, and is held.
     Known(Accepted),
@@ -67,7 +67,7 @@ impl Told {
 /// What a server that was given a Write did with it.
 #[derive(Clone, Copy, Debug, PartialEq, Eq)]
 pub enum Took {
-    /// It holds the Write now, behind the others.
+    /// It holds the Write now, after the others.
     New,
     /// It held the Write already.
     Had,

@@ -5,7 +5,7 @@ use bayou_tags::Tags;
 use std::collections::VecDeque;
 
 // The Writes held, the tag beside each, or none, and the Write in doubt, if one is. While one is, its tag comes. Where it was being stored together
-// with others, which may be none, those are in doubt behind it.
+// with others, which may be none, those are in doubt after it.
 #[derive(Drop)]
 pub struct Holding {
     pub log: WriteLog,

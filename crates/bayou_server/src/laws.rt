@@ -66,7 +66,7 @@ pub fn a_reopening_is_one<D: Device>()
     what_is_opened_is_one::<D>();
 }
 
-/// A journal with which a server is up again begins with what it held, and has nothing else behind that but the Write in
+/// A journal with which a server is up again begins with what it held, and has nothing else after that but the Write in
 /// doubt.
 pub fn what_reopens_is_not_refused<D: Device>()
     ensures { (adopted : Option Wid) (old new : ServerState D) (left : D) (bodies : List Body) (last : List ℕ) (doubt : Write) → D.is_modelled
@@ -168,7 +168,7 @@ pub fn what_is_held_is_kept<D: Device>()
 
 /// A server whose device crashed is started again honestly. Where the Writes held were kept, the device is honest, whatever a failed call
 /// had left there; and a start on it holds what was held, or that and the Write in doubt, whose entry was being stored, and is over a
-/// whole device. It is refused for a device call or for memory alone. A crash within a call is one behind a call whose next device call
+/// whole device. It is refused for a device call or for memory alone. A crash within a call is one after a call whose next device call
 /// failed, or one at the call's begin, with the Write that comes in doubt.
 pub fn a_crash_leaves_an_honest_device<D: Device>()
     ensures honest { (id : ℕ) (held : List Record) (doubt : Option Record) (before device : D) → KeepsWrites D.Device id held before → HasCrashed D.Device id held doubt before device
@@ -215,7 +215,7 @@ pub fn what_its_device_holds_decides<D: Device>()
     what_stands_behind_the_kept_decides::<D>();
 }
 
-/// Whatever a failed call or a crash leaves behind what is kept: where the entries of the Writes held are kept, no reopening says that
+/// Whatever a failed call or a crash leaves after what is kept: where the entries of the Writes held are kept, no reopening says that
 /// one is lost, and a start holds them, before all others; neither says that the journal is another server's, or none.
 pub fn what_is_kept_is_never_lost<D: Device>()
     ensures reopened { (bodies : List Body) (result : Result Reopened ReopenFault) (old new : ServerState D) → D.is_modelled → IsSoundServer old.core

@@ -47,7 +47,7 @@ fn is_of_asking(write: &RestingWrite, need: &Vector, program: &RestingProgram) -
     *write.program() == *program && write.deps().dominates(need)
 }
 
-// What is told of the Write that is held under the tag, if one is.
+// What is reported of the Write that is held under the tag, if one is.
 fn told_before(
     holding: &Holding,
     id: ServerId,

@@ -65,7 +65,7 @@ impl<D> Model for Server<D> {
 
 impl<D: Device> Server<D> {
     /// Starts the server `id`, one of `count`, with the Writes that its journal on the device has; it is to hold `limit`
-    /// at the most. It gives, beside the server, how many bytes were cut behind the journal's entries. Device calls: those
+    /// at the most. It gives, beside the server, how many bytes were cut after the journal's entries. Device calls: those
     /// of the journal's opening alone. A refusal hands the device back.
     pub fn start(
         alloc: Global,
@@ -131,7 +131,7 @@ impl<D: Device> Server<D> {
     }
 
     /// The first of the rows whose keys begin so and come after this one, if there is one, in the order of keys, in the database of the Writes
-    /// held: so many at the most, and as many as fit into a page. It tells whether one is left behind them, and what is held; also while the
+    /// held: so many at the most, and as many as fit into a page. It tells whether one is left after them, and what is held; also while the
     /// server is down. It takes no memory.
     pub fn list(
         &self,
@@ -166,7 +166,7 @@ impl<D: Device> Server<D> {
     }
 
     /// Makes the program the server's next Write, stores its entry, and then holds it under the tag. Where a Write is held under it already,
-    /// that is told, also while the server is down. Neither that nor a refusal before `OutOfMemory` takes memory or calls the device: the
+    /// that is reported, also while the server is down. Neither that nor a refusal before `OutOfMemory` takes memory or calls the device: the
     /// program is copied only where a Write is to be made of it. Device calls: those of the journal's append alone.
     pub fn write(
         &mut self,
@@ -247,10 +247,10 @@ impl<D: Device> Server<D> {
         told
     }
 
-    /// Takes the Writes, as [`Server::take`] does, one after another, up to one that is refused: but those that come one behind the other are stored as
+    /// Takes the Writes, as [`Server::take`] does, one after another, up to one that is refused: but those that come one after the other are stored as
     /// one piece of the journal, no longer than its longest entry, and synced together. Where `waiting` counts somebody, no more than one piece is taken,
     /// so that whoever waits for the server waits for one sync; but of Writes that come late, as many as about a thirty-second of those that are applied
-    /// anew behind them. When somebody waits no clause can tell. Where a device call fails, all Writes of the piece are in doubt, of which the first is
+    /// anew after them. No clause can tell when somebody waits. Where a device call fails, all Writes of the piece are in doubt, of which the first is
     /// the one refused.
     pub fn take_meanwhile(
         &mut self,

@@ -49,7 +49,7 @@ fn stand_for_each(
     Ok(true)
 }
 
-// How many of the Writes in doubt, of which there are some, the bodies have behind those of what is held.
+// How many of the Writes in doubt, of which there are some, the bodies have after those of what is held.
 fn count_adopted(
     alloc: Global,
     id: ServerId,
@@ -94,7 +94,7 @@ fn count_adopted(
     Ok(more + 1)
 }
 
-// The name of the Write in doubt behind which so many others are adopted, or of the last of these.
+// The name of the Write in doubt after which so many others are adopted, or of the last of these.
 fn last_adopted(holding: &Holding, more: usize) -> Wid
     requires doubt { IsSome holding.now.doubt }
     requires more { more ≤ length holding.now.taking.items }

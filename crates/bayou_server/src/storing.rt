@@ -1,4 +1,4 @@
-//! How a server stores one Write more: its entry behind the others of the journal, and then the Write. What of the log isn't applied
+//! How a server stores one Write more: its entry after the others of the journal, and then the Write. What of the log isn't applied
 //! waits for whoever calls.
 ghost use Rattle.std.specs.Prelude.{◌≡◌, ◌<◌, IfOk, MatchResult, length};
 ghost use Rattle.bayou_journal.specs.Opening.{KeepsChains};
@@ -19,7 +19,7 @@ use std::alloc::{AllocError, Global};
 
 // What came of it.
 pub enum Stored {
-    // Its entry was added, and it is held behind the others.
+    // Its entry was added, and it is held after the others.
     Held,
     // A device call failed, and it is in doubt.
     InDoubt,

@@ -1,4 +1,4 @@
-//! How a server takes several Writes that other servers accepted together: the entries of those that come one behind the other are stored as one
+//! How a server takes several Writes that other servers accepted together: the entries of those that come one after the other are stored as one
 //! piece, and synced once. What of the log isn't applied waits for whoever calls.
 ghost use Rattle.std.specs.Prelude.{◌≡◌, ℕ, ◌+◌, ◌<◌, ◌≤◌, ◌^◌, ◌⊎◌, List, [], ◌∷◌, ◌++◌, Option, None, Some, MatchOption, OnOk, IfSome, length, replicate};
 ghost use Rattle.std.specs.VecDeque.{deque_capacity};

@@ -12,7 +12,7 @@ use Rattle.bayou_session.specs.declared.past.Past.{Past}
 
 -- A session: its name, what it asks for, the run of the program that it belongs to, how many places it has begun, the place
 -- of the Write that it may ask again, if there is one, the join of the vectors that its served reads saw (read-set), and the
--- counts raised to each Write that it was told of (write-set).
+-- counts raised to each Write that it heard of (write-set).
 pub record Told : Type 0 where
   pub id : SessionId
   pub asks : Asks
@@ -30,7 +30,7 @@ HasCounts session = AreCounts session.reads × AreCounts session.writes
 abbrev pub new_session : SessionId → ℕ → Asks → Told
 new_session id run asks = record { id = id; asks = asks; run = run; begun = 0; asked = None; reads = replicate SERVERS 0; writes = replicate SERVERS 0 }
 
--- a session that goes on from what it was told and tried before
+-- a session that goes on from what it learned and tried before
 abbrev pub resumed : SessionId → Asks → Past → Told
 resumed id asks past =
     record { id = id; asks = asks; run = past.run; begun = past.begun; asked = past.asked; reads = past.reads; writes = past.writes }
@@ -51,11 +51,11 @@ asks_again session = record session { begun = session.begun + 1 }
 abbrev pub IsTagOf : Told → ℕ → Tag → Type 0
 IsTagOf session number tag = (tag.session ≡ session.id) × (tag.run ≡ session.run) × (tag.number ≡ number)
 
--- it was told what a read was served: its read-set has all that the server held
+-- it learned what a read was served: its read-set has all that the server held
 abbrev pub after_read : Told → Seen → Told
 after_read session seen = record session { reads = joined session.reads seen.vector }
 
--- it was told that a Write was accepted, which its write-set then has, and which it asks no more
+-- it was reported that a Write was accepted, which its write-set then has, and which it asks no more
 abbrev pub after_write : Told → Accepted → Told
 after_write session accepted = record session { writes = raised session.writes accepted.wid; asked = None }
 

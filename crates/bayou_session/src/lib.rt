@@ -2,7 +2,7 @@
 //!
 //! Callers see a [`Session`] as its name, what it asks for, its run, how many places it has begun, the Write that it may ask
 //! again, and two vectors: the read vector is the join of what its served reads saw, and the write vector counts the Writes
-//! that it was told of. What it needs of a server is a function of these two and of its asks: a server that dominates the need
+//! that it learned of. What it needs of a server is a function of these two and of its asks: a server that dominates the need
 //! may serve it.
 //!
 //! A caller begins a place for each operation that it tries, hands the need to the server, and tells the session what it was

@@ -4,7 +4,7 @@ ghost use Rattle.bayou_base.specs.declared.limits.TheConstants.{MAX_PLACES};
 
 use bayou_base::Vector;
 
-/// What a session was told and tried before: the run and the place that it is at, and what it may ask again.
+/// What a session heard and tried before: the run and the place that it is at, and what it may ask again.
 #[derive(Clone, Copy, Debug, PartialEq, Eq)]
 pub struct Past {
     pub run: u32,

@@ -86,7 +86,7 @@ impl Session {
         }
     }
 
-    /// What it was told and tried so far.
+    /// What it learned and tried so far.
     pub fn past(&self) -> Past
         ensures { resumed self.now.id self.now.asks result ≡ self.now }
     {
@@ -134,7 +134,7 @@ impl Session {
         self.begun
     }
 
-    // Begins the next place, behind which the Write that was asked first at the place `asked` may be asked again, if there is one.
+    // Begins the next place, after which the Write that was asked first at the place `asked` may be asked again, if there is one.
     fn next_place(&mut self, asked: Option<u32>) -> u32
         requires left { self.old.begun < MAX_PLACES }
         requires within { IfSome asked (λ number. (0 < number) × (number ≤ self.old.begun + 1)) }
@@ -186,7 +186,7 @@ impl Session {
     }
 
     /// Begins the next place, for the Write that was asked last, and gives its tag once more: `None`, and no place is begun, where the
-    /// operation begun last was no Write, or the session was told that it was accepted.
+    /// operation begun last was no Write, or the session heard that it was accepted.
     pub fn again(&mut self) -> Option<Tag>
         requires { self.old.begun < MAX_PLACES }
         ensures { MatchOption result ((self.old.asked ≡ None) × (self.new ≡ self.old))
@@ -213,7 +213,7 @@ impl Session {
         where_asked(self.asks.wfr, self.reads).join(&where_asked(self.asks.mw, self.writes))
     }
 
-    /// It was told what a read was served.
+    /// It learned what a read was served.
     pub fn saw(&mut self, seen: &Seen)
         ensures told { self.new ≡ after_read self.old seen.now }
         ensures counts { HasCounts self.new }
@@ -221,7 +221,7 @@ impl Session {
         self.reads = self.reads.join(&seen.vector);
     }
 
-    /// It was told that a Write was accepted, which it then can't ask again.
+    /// It was reported that a Write was accepted, which it then can't ask again.
     pub fn wrote(&mut self, accepted: &Accepted)
         ensures told { self.new ≡ after_write self.old accepted.now }
         ensures counts { HasCounts self.new }

@@ -1,5 +1,5 @@
 -- What a check of a text comes to, by its kind.
-use Rattle.std.proofs.Common.{◌≡◌, ℕ, List, Option, None, Some, IfSome, MatchOption, refl, subst, sym}
+use Rattle.std.proofs.Common.{◌≡◌, ℕ, List, Option, None, Some, IfSome, MatchOption, refl, subst}
 use Rattle.bayou_check.specs.Checked.{ChecksAudit, ChecksScript, least_told}
 use Rattle.bayou_check.specs.declared.kind.Kind.{Kind}
 use Rattle.bayou_check.specs.declared.kind.Kind.TheVariants.{Audit, Script}

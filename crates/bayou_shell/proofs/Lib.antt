@@ -6,6 +6,7 @@ pub mod Lent
 pub mod Nets
 pub mod Planned
 pub mod Read
+pub mod Tied
 pub mod Runs
 pub mod Tasks
 pub mod Wanted

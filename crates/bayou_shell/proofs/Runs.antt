@@ -28,7 +28,9 @@ use Rattle.bayou_print.specs.Faults.{IsRunFault}
 use Rattle.bayou_shell.specs.Inner.Faults.{IsReadFault}
 use Rattle.bayou_print.specs.Waiting.{Gathers, Stage}
 use Rattle.bayou_print.specs.Printed.{answer_text}
+use Rattle.bayou_runs.specs.Runs.{IsInRange}
 use Rattle.bayou_shell.specs.Run.{Prints, PrintsPart, RunsAs, answers_text}
+use Rattle.bayou_shell.proofs.Tied.{IsLaw, part_told, whole_told}
 use Rattle.bayou_print.specs.Turns.{EndsReading, EndsWriting, cut_lines}
 use Rattle.bayou_print.specs.Laws.Gathered.{Gathers-trans}
 
@@ -201,19 +203,19 @@ RunsAs-memory None contents status read_fails write_fails reads writes is = tt
 RunsAs-memory (Some input) contents status read_fails write_fails reads writes is = (Err faults.Memory, inl (Keeps-refl contents), is, tt, tt)
 
 -- a script that was read runs as it is told
-pub RunsAs-script : (known : Option (List ℕ)) (old new : Account) (plan : Plan) (result : Result Ended RunFault)
+pub RunsAs-script : IsLaw → (known : Option (List ℕ)) (old new : Account) (plan : Plan) → IsInRange plan → (result : Result Ended RunFault)
     → IfSome known (λ text. IsScript (lines_of text) plan)
     → IfOk result (λ ended. (text : List ℕ) × Prints plan ended text × TakesBytes old new text)
     → IfErr result (λ fault. IsRunFault fault × (text : List ℕ) × PrintsPart plan text × TakesBytes old new text)
     → IfSome known (λ input. RunsAs input result old.contents new.contents)
-RunsAs-script None old new plan result script ok err = tt
-RunsAs-script (Some input) old new plan (Ok done) script (text, prints, took) err = (plan, script, text, prints, took.bytes)
-RunsAs-script (Some input) old new plan (Err (Line number why)) script ok (is, text, prints, took) = absurd is
-RunsAs-script (Some input) old new plan (Err faults.Memory) script ok (is, text, prints, took) = inr (plan, script, text, prints, took.bytes)
-RunsAs-script (Some input) old new plan (Err Device) script ok (is, text, prints, took) = absurd is
-RunsAs-script (Some input) old new plan (Err Network) script ok (is, text, prints, took) = absurd is
-RunsAs-script (Some input) old new plan (Err Input) script ok (is, text, prints, took) = absurd is
-RunsAs-script (Some input) old new plan (Err Output) script ok (is, text, prints, took) = (plan, script, text, prints, took.bytes)
+RunsAs-script law None old new plan in_range result script ok err = tt
+RunsAs-script law (Some input) old new plan in_range (Ok done) script (text, prints, took) err = (plan, script, text, whole_told law (lines_of input) plan script in_range done text prints, took.bytes)
+RunsAs-script law (Some input) old new plan in_range (Err (Line number why)) script ok (is, text, prints, took) = absurd is
+RunsAs-script law (Some input) old new plan in_range (Err faults.Memory) script ok (is, text, prints, took) = inr (plan, script, text, part_told law (lines_of input) plan script in_range text prints, took.bytes)
+RunsAs-script law (Some input) old new plan in_range (Err Device) script ok (is, text, prints, took) = absurd is
+RunsAs-script law (Some input) old new plan in_range (Err Network) script ok (is, text, prints, took) = absurd is
+RunsAs-script law (Some input) old new plan in_range (Err Input) script ok (is, text, prints, took) = absurd is
+RunsAs-script law (Some input) old new plan in_range (Err Output) script ok (is, text, prints, took) = (plan, script, text, part_told law (lines_of input) plan script in_range text prints, took.bytes)
 
 -- where the servers of a script don't begin, nothing is answered
 pub RunsAs-unbegun : (known contents : Option (List ℕ)) (plan : Plan) (fault : BeginFault) → IfSome known (λ text. IsScript (lines_of text) plan)

@@ -9,7 +9,7 @@ use Rattle.bayou_print.specs.Fault.{status_of}
 use Rattle.bayou_print.specs.Telling.{TellsEnd, TellsFault}
 use Rattle.bayou_print.specs.Turns.{EndsReading, EndsWriting, cut_lines}
 use Rattle.bayou_shell.specs.declared.errand.Errand.{Errand}
-use Rattle.bayou_shell.specs.declared.errand.Errand.TheVariants.{Connect, Done, Net, Serve}
+use Rattle.bayou_shell.specs.declared.errand.Errand.TheVariants.{Done}
 use Rattle.bayou_shell.specs.Program.{Ends, IsWell, Works, done_of, errand_of}
 use Rattle.bayou_streams.specs.Account.{Account, Pays}
 
@@ -54,7 +54,7 @@ kept (an_export wanted) text contents = (refl, Keeps-refl contents)
 kept (an_import wanted) text contents = (refl, Keeps-refl contents)
 kept (a_web wanted) text contents = (refl, Keeps-refl contents)
 kept (a_check wanted) text contents = (refl, Keeps-refl contents)
-kept (an_explanation source) text contents = (refl, Keeps-refl contents)
+kept (an_explanation wanted) text contents = (refl, Keeps-refl contents)
 
 -- want of memory before anything was read is an end of each task
 pub works_unread : (known : Option (List ℕ)) (asked : Asked) (status : ℕ) (contents : Option (List ℕ)) (read_fails write_fails : Bool) (reads writes : ℕ) (told telling : Account) (has_failed : Bool)

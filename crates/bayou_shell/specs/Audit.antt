@@ -24,12 +24,12 @@ abbrev pub IsSurveyOf : Evidence → List ℕ → Type 0
 IsSurveyOf evidence text =
     (list : Vec Surveyed) × SurveyAnswer evidence.count evidence.entries evidence.dumps (Ok list) × (text ≡ flat_map surveyed_text list.items)
 
--- what stands behind the verdict: the survey, and nothing where the verdict is refused
+-- what stands after the verdict: the survey, and nothing where the verdict is refused
 abbrev pub IsBehind : Evidence → Result Verdict BadEvidence → List ℕ → Type 0
 IsBehind evidence (Ok verdict) text = IsSurveyOf evidence text
 IsBehind evidence (Err bad) text = text ≡ []
 
--- the text is what is printed of the evidence: the verdict's line, and what stands behind it
+-- the text is what is printed of the evidence: the verdict's line, and what stands after it
 pub record IsAudit (evidence : Evidence) (ended : Ended) (text : List ℕ) : Type 0 where
   pub verdict : Result Verdict BadEvidence
   pub is : IsVerdictOf evidence verdict

@@ -1,6 +1,7 @@
 -- What the program does with the words that it is called with.
 use Rattle.std.specs.Prelude.{◌≡◌, ◌<◌, ℕ, Bool, List, Option, IfErr, IfSome, Result, Ok, Err}
 use Rattle.std.specs.Io.KnownBytes.{Appends, Keeps}
+use Rattle.bayou_command.specs.Audit.{Audit as Auditing}
 use Rattle.bayou_command.specs.Check.{Check as Checking}
 use Rattle.bayou_command.specs.Connect.{Connection}
 use Rattle.bayou_command.specs.Export.{Export as Rows}
@@ -187,20 +188,20 @@ ChecksTextAs wanted (Ok (Import intake)) old new = ⊥
 ChecksTextAs wanted (Ok (Web window)) old new = ⊥
 ChecksTextAs wanted (Err fault) old new = (fault ≡ Memory) × Keeps old new
 
--- The audit is left to be made and explained, as the words say; or memory ran out. Nothing is printed yet.
-abbrev pub ExplainsTextAs : Input → Result Errand RunFault → (old new : Option (List ℕ)) → Type 0
-ExplainsTextAs source (Ok (Explain explaining)) old new = IsExplainingOf source explaining × Keeps old new
-ExplainsTextAs source (Ok (Check checkup)) old new = ⊥
-ExplainsTextAs source (Ok (Done status)) old new = ⊥
-ExplainsTextAs source (Ok (Net folder script)) old new = ⊥
-ExplainsTextAs source (Ok (Serve service)) old new = ⊥
-ExplainsTextAs source (Ok (Connect call)) old new = ⊥
-ExplainsTextAs source (Ok (Key wish)) old new = ⊥
-ExplainsTextAs source (Ok (Renew renewal)) old new = ⊥
-ExplainsTextAs source (Ok (Export extract)) old new = ⊥
-ExplainsTextAs source (Ok (Import intake)) old new = ⊥
-ExplainsTextAs source (Ok (Web window)) old new = ⊥
-ExplainsTextAs source (Err fault) old new = (fault ≡ Memory) × Keeps old new
+-- The audit is left to be made, and what is asked for told of it, as the words say; or memory ran out. Nothing is printed yet.
+abbrev pub ExplainsTextAs : Auditing → Result Errand RunFault → (old new : Option (List ℕ)) → Type 0
+ExplainsTextAs wanted (Ok (Explain explaining)) old new = IsExplainingOf wanted explaining × Keeps old new
+ExplainsTextAs wanted (Ok (Check checkup)) old new = ⊥
+ExplainsTextAs wanted (Ok (Done status)) old new = ⊥
+ExplainsTextAs wanted (Ok (Net folder script)) old new = ⊥
+ExplainsTextAs wanted (Ok (Serve service)) old new = ⊥
+ExplainsTextAs wanted (Ok (Connect call)) old new = ⊥
+ExplainsTextAs wanted (Ok (Key wish)) old new = ⊥
+ExplainsTextAs wanted (Ok (Renew renewal)) old new = ⊥
+ExplainsTextAs wanted (Ok (Export extract)) old new = ⊥
+ExplainsTextAs wanted (Ok (Import intake)) old new = ⊥
+ExplainsTextAs wanted (Ok (Web window)) old new = ⊥
+ExplainsTextAs wanted (Err fault) old new = (fault ≡ Memory) × Keeps old new
 
 -- what becomes of what is asked for on an input of these bytes
 abbrev pub Works : Asked → List ℕ → Result Errand RunFault → (old new : Option (List ℕ)) → Type 0
@@ -215,7 +216,7 @@ Works (an_export wanted) input came old new = ExportsAs wanted came old new
 Works (an_import wanted) input came old new = ImportsAs wanted came old new
 Works (a_web wanted) input came old new = ShowsAs wanted came old new
 Works (a_check wanted) input came old new = ChecksTextAs wanted came old new
-Works (an_explanation source) input came old new = ExplainsTextAs source came old new
+Works (an_explanation wanted) input came old new = ExplainsTextAs wanted came old new
 
 -- what is left to be done then: nothing where a fault was told
 abbrev pub errand_of : Result Errand RunFault → Errand
@@ -248,7 +249,7 @@ input_of_asked (an_export wanted) = standard
 input_of_asked (an_import wanted) = standard
 input_of_asked (a_web wanted) = standard
 input_of_asked (a_check wanted) = standard
-input_of_asked (an_explanation source) = standard
+input_of_asked (an_explanation wanted) = standard
 
 -- What becomes of what is asked for on a file: the file may be refused, or memory may run out before it is opened, and nothing is printed;
 -- else it is done on what a reader of it gives, which is at fault only where a call of it failed or no turn was left.

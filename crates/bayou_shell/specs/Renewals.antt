@@ -12,7 +12,7 @@ use Rattle.bayou_shell.specs.declared.renewed.Renewal.{Renewal}
 use Rattle.bayou_socket_run.specs.Damage.{journal_name}
 use Rattle.bayou_streams.specs.Account.{Account, TakesBytes}
 
--- the plan is what the words ask for; what counts the word behind --at says, no clause says
+-- the plan is what the words ask for; what counts the word after --at says, no clause says
 pub record IsWishOf (asked : Asking) (plan : Plan) : Type 0 where
   pub id : plan.id.index ≡ asked.id
   pub servers : plan.servers ≡ asked.servers

@@ -18,7 +18,7 @@ use bayou_streams::{CountedChannel, Output};
 use std::alloc::Global;
 use std::io::{Read, Write};
 
-/// Writes the verdict on evidence that was surveyed, and the survey behind it, or has them wait.
+/// Writes the verdict on evidence that was surveyed, and the survey after it, or has them wait.
 fn write_surveyed<W: Write>(
     alloc: Global,
     file: &AuditFile,
@@ -57,7 +57,7 @@ fn write_refused<W: Write>(
     Ok(Ended::of_verdict(&verdict))
 }
 
-/// Writes the verdict on the evidence, and the survey behind it unless the verdict is refused, or has them wait. The entries are gone through
+/// Writes the verdict on the evidence, and the survey after it unless the verdict is refused, or has them wait. The entries are gone through
 /// once for both.
 fn write_audit<W: Write>(
     alloc: Global,

@@ -16,13 +16,13 @@ use std::fs::File;
 use std::io::{Read, Write};
 
 /// The exit status of a text that is refused.
-const REFUSED: u8 = 2;
+pub(crate) const REFUSED: u8 = 2;
 
 /// The exit status of every other fault.
 pub(crate) const FAILED: u8 = 3;
 
 /// What the standard input is called.
-const STANDARD: &str = "-";
+pub(crate) const STANDARD: &str = "-";
 
 /// What is to be checked.
 #[derive(Drop)]

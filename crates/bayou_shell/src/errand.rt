@@ -36,6 +36,6 @@ pub enum Errand {
     Web(Window),
     /// To tell every fault of a text.
     Check(Checkup),
-    /// To audit a file, and to explain what is told of it.
+    /// To audit a file, and to tell more of it than the verdict and the survey.
     Explain(Explaining),
 }

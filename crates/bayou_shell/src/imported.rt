@@ -66,7 +66,7 @@ fn places_in(
     Ok(plan)
 }
 
-// The name of the state: the one that is said, else that of the file of the lines with `.state` behind it.
+// The name of the state: the one that is said, else that of the file of the lines with `.state` after it.
 fn state_in(alloc: Global, importing: &Importing<'_>) -> Result<String, AllocError>
     ensures { IfOk result (λ state. string_bytes state ≡ state_named (import_seen importing.now)) }
 {

@@ -5,7 +5,7 @@
 //! `bayou_script` as it comes, before anything runs. Where it is refused, nothing is printed, and the least line with a fault is
 //! told; where a fault comes later, a front of what is to be printed is printed. What a run prints are the lines of its answers
 //! (`bayou_machine`). A run over sockets, a server that is to live, a person's session or page, a key, a renewal, an export and an import are left to be
-//! done ([`Errand`]), as the words and the script say. Which lines a run over sockets prints then, no clause says: they are put behind what the writer
+//! done ([`Errand`]), as the words and the script say. Which lines a run over sockets prints then, no clause says: they are put after what the writer
 //! holds, and nothing else is done there.
 //!
 //! Streams come as `bayou_streams`' `CountedChannel` and `Output`, which alone call them: an input is read in at most
@@ -42,7 +42,7 @@ pub use cause::tell_device;
 pub use checked::{Checkup, check_input, run_checked};
 pub use connected::{Call, run_connected};
 pub use errand::Errand;
-pub use explained::{Explaining, explain_input, run_explained};
+pub use explained::{Beside, Explaining, Outcome, explain_input, run_explained};
 pub use exported::{Extract, run_exported};
 pub use files::Files;
 pub use imported::{Intake, run_imported};

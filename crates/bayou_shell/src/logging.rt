@@ -1,4 +1,4 @@
-//! A file in which each line that a person was told stands behind its time.
+//! A file in which each line that a person was told stands after its time.
 ghost use Rattle.std.specs.Prelude.{◌≡◌, None};
 
 use bayou_streams::Output;
@@ -66,7 +66,7 @@ impl<'a, W, L, C> Logged<'a, W, L, C> {
 }
 
 impl<W, L: Write, C: Clock> Logged<'_, W, L, C> {
-    // The text as the log has it: behind the time where a line begins.
+    // The text as the log has it: after the time where a line begins.
     fn logged_text(&mut self, text: &[u8]) -> Result<Vec<u8>, AllocError> {
         let mut logged = Vec::new(self.alloc);
         for byte in text {

@@ -114,7 +114,7 @@ fn work<R: Read, W: Write>(
         Task::Import(importing) => Ok(Errand::Import(Intake::of(alloc, &importing)?)),
         Task::Web(showing) => Ok(Errand::Web(Window::of(alloc, &showing)?)),
         Task::Check(checking) => Ok(Errand::Check(Checkup::of(alloc, &checking)?)),
-        Task::Explain(source) => Ok(Errand::Explain(Explaining::of(alloc, source)?)),
+        Task::Explain(auditing) => Ok(Errand::Explain(Explaining::of(alloc, &auditing)?)),
     }
 }
 

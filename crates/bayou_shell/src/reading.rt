@@ -17,7 +17,7 @@ use bayou_streams::{CountedChannel, Turn};
 use std::alloc::Global;
 use std::io::Read;
 
-/// What the text says that the reader has left, of which no more is kept than that. Nothing is read behind a piece with its least
+/// What the text says that the reader has left, of which no more is kept than that. Nothing is read after a piece with its least
 /// line with a fault. It ends with `Input` only where a call of the reader failed or no turn is left.
 fn read_text<F: Front, R: Read>(
     alloc: Global,

@@ -20,6 +20,7 @@ use bayou_audit::{Blanks, Four, Ledgers};
 use bayou_base::SESSIONS;
 use bayou_machine::Machine;
 use bayou_print::{Ended, RunFault, Waiting, write_answer, write_book};
+use bayou_runs::laws::a_script_is_a_run;
 use bayou_script::{Script, Servers, capacity_for};
 use bayou_streams::{CountedChannel, Output};
 use bayou_text::{Command, Question};
@@ -153,6 +154,7 @@ fn run_with<K: Ledgers, R: Read, W: Write>(
     let waiting = Waiting::new(alloc)?;
     let capacity = capacity_for(&script.commands);
     let mut machine = Machine::<K>::new(alloc, blanks, script.servers, capacity)?;
+    a_script_is_a_run();
     answer_all(alloc, script, &mut machine, output, waiting)
 }
 

@@ -30,7 +30,7 @@ fn main(rt: HostRuntime) -> ExitCode {
     let Err(fault) = ended else {
         return ExitCode::SUCCESS;
     };
-    // Where the fault can't be told, the status still tells that there was one.
+    // Where the fault can't be reported, the status still tells that there was one.
     let _ = writeln!(rt.stderr(), "bayou_socket_host: {}", fault.text());
     ExitCode::from(fault.status())
 }

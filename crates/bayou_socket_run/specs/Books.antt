@@ -25,7 +25,7 @@ lines_of (suc servers) nodes = lines_of servers nodes ++ line_of nodes servers
 abbrev pub books_text : (servers : ℕ) → Totals → List NodeSettled → Result Verdict BadEvidence → List ℕ
 books_text servers totals nodes verdict = answer_text servers (Counted totals) ++ (lines_of servers nodes ++ answer_text servers (Judged verdict))
 
--- A run that came to its end printed lines, and behind them what its books come to; its status is no better than that of their verdict. Of
+-- A run that came to its end printed lines, and after them what its books come to; its status is no better than that of their verdict. Of
 -- another one lines were printed, or a front of them.
 abbrev pub PrintsRun : (servers : ℕ) → Result Ended RunFault → Account → Account → Type 0
 PrintsRun servers (Ok ended) old new =

@@ -1,4 +1,4 @@
--- What is told of journals that are damaged, beside the fault of the run: this project's own.
+-- What is reported of journals that are damaged, beside the fault of the run: this project's own.
 use Rattle.std.specs.Prelude.{◌≡◌, ◌⊎◌, ℕ, zero, suc, ◌<◌, ◌≤◌, Bool, List, ◌++◌, Option, None, Some, codes, decimal, Result, Ok, Err}
 use Rattle.bayou_journal.specs.Careful.{damage_text, entry_text}
 use Rattle.bayou_journal.specs.declared.careful.Damage.{Damage}
@@ -17,16 +17,16 @@ journal_name folder server = folder ++ (codes "/server-" ++ (decimal server ++ c
 abbrev pub damage_text_of : (name : List ℕ) → Damage → List ℕ
 damage_text_of name damage = codes "bayou: " ++ (name ++ (codes ": " ++ (damage_text damage ++ codes "\n")))
 
--- nothing was told, or the damage of the file of this name, or a front of that line
+-- nothing was reported, or the damage of the file of this name, or a front of that line
 abbrev pub MayTell : (name : List ℕ) → Account → Account → Type 0
 MayTell name old new = (new ≡ old) ⊎ ((damage : Damage) × TakesFront old new (damage_text_of name damage))
 
--- a start that was refused on the file of this name: of one that memory was wanting for nothing is told
+-- a start that was refused on the file of this name: of one that memory was wanting for nothing is reported
 abbrev pub RefusesAt : (name : List ℕ) → RunFault → Account → Account → Type 0
 RefusesAt name Device old new = MayTell name old new
 RefusesAt name other old new = new ≡ old
 
--- Only where the device of a server was at fault as it was started something may be told: the damage of that server's journal.
+-- Only where the device of a server was at fault as it was started something may be reported: the damage of that server's journal.
 abbrev pub TellsDamage : RunFault → (folder : List ℕ) (servers : ℕ) → Account → Account → Type 0
 TellsDamage Device folder servers old new = (new ≡ old) ⊎ ((server : ℕ) × (server < servers) × MayTell (journal_name folder server) old new)
 TellsDamage other folder servers old new = new ≡ old
@@ -35,12 +35,12 @@ TellsDamage other folder servers old new = new ≡ old
 abbrev pub entry_text_of : (name : List ℕ) → DamagedEntry → List ℕ
 entry_text_of name entry = codes "bayou: " ++ (name ++ (codes ": " ++ (entry_text entry ++ codes "\n")))
 
--- what is told of the last entry of the file of this name, where it was dropped: all of that line, but for where the output ends
+-- what is reported of the last entry of the file of this name, where it was dropped: all of that line, but for where the output ends
 abbrev pub TellsEntry : (name : List ℕ) → Option DamagedEntry → (old new : Account) → (has_failed : Bool) → Type 0
 TellsEntry name None old new has_failed = new ≡ old
 TellsEntry name (Some entry) old new has_failed = IsPut (entry_text_of name entry) old new has_failed
 
--- nothing was told, or that the last entry of the file of this name was dropped, or a front of that line
+-- nothing was reported, or that the last entry of the file of this name was dropped, or a front of that line
 abbrev pub MayTellEntry : (name : List ℕ) → Account → Account → Type 0
 MayTellEntry name old new = (new ≡ old) ⊎ ((entry : DamagedEntry) × TakesFront old new (entry_text_of name entry))
 
@@ -53,7 +53,7 @@ TellsEntries folder (suc servers) old new = (between : Account) × TellsEntries 
 abbrev pub StopsStart : RunFault → (folder : List ℕ) (servers : ℕ) → Account → Account → Type 0
 StopsStart fault folder servers old new = (started : ℕ) × (started ≤ servers) × (between : Account) × TellsEntries folder started old between × TellsDamage fault folder servers between new
 
--- what is told beside a run that ended so, all of it while its servers are started
+-- what is reported beside a run that ended so, all of it while its servers are started
 abbrev pub TellsStart : Result Ended RunFault → (folder : List ℕ) (servers : ℕ) → Account → Account → Type 0
 TellsStart (Ok ended) folder servers old new = TellsEntries folder servers old new
 TellsStart (Err fault) folder servers old new = StopsStart fault folder servers old new

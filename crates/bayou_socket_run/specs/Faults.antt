@@ -6,7 +6,7 @@ use Rattle.bayou_print.specs.declared.fault.RunFault.{RunFault}
 use Rattle.bayou_print.specs.declared.fault.RunFault.TheVariants.{Line, Memory, Device, Network, Input, Output}
 use Rattle.bayou_streams.specs.Account.{Account}
 
--- what a run is told to end with whose servers can't go on
+-- what a run whose servers can't go on is reported to end with
 abbrev pub fault_of_fleet : FleetFault → RunFault
 fault_of_fleet fleet.Memory = Memory
 fault_of_fleet fleet.Network = Network

@@ -6,7 +6,7 @@ ghost use Rattle.bayou_socket_run.specs.Inner.Faults.{IsPhaseFault};
 use bayou_fleet::FleetFault;
 use bayou_print::RunFault;
 
-/// What a fault of the servers of a run is told as.
+/// What a fault of the servers of a run is reported as.
 pub(crate) fn fault_of(fleet: FleetFault) -> RunFault
     ensures same { result ≡ fault_of_fleet fleet }
     ensures phase { IsPhaseFault result }

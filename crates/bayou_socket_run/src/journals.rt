@@ -52,13 +52,13 @@ fn damage_line(alloc: Global, path: &str, damage: Damage) -> Result<String, Allo
     format!(in alloc; "bayou: {path}: {damage}\n")
 }
 
-/// Tells the damage of the journal of this name, where there is some, as far as memory suffices and it can be told.
+/// Reports the damage of the journal of this name, where there is some, as far as memory suffices and it can be printed.
 fn tell_damage<E: Write>(alloc: Global, path: &str, damage: Option<Damage>, told: &mut Output<E>)
     ensures { MayTell path.now (account E.contents told.old) (account E.contents told.new) }
 {
     let Some(damage) = damage else { return };
     if let Ok(line) = damage_line(alloc, path, damage) {
-        // Where it can't be told, the fault that follows is.
+        // Where it can't be reported, the fault that follows is.
         let _ = write_text(told, line.as_bytes());
     }
 }
@@ -70,7 +70,7 @@ fn entry_line(alloc: Global, path: &str, entry: DamagedEntry) -> Result<String, 
     format!(in alloc; "bayou: {path}: {entry}\n")
 }
 
-/// Tells that the last entry of the journal of this name was dropped, where it was, as far as it can be told.
+/// Reports that the last entry of the journal of this name was dropped, where it was, as far as it can.
 fn tell_entry<E: Write>(
     alloc: Global,
     path: &str,
@@ -82,12 +82,12 @@ fn tell_entry<E: Write>(
 {
     let Some(entry) = entry else { return Ok(()) };
     let line = entry_line(alloc, path, entry)?;
-    // Where it can't be told, the run goes on as it would.
+    // Where it can't be reported, the run goes on as it would.
     let _ = write_text(told, line.as_bytes());
     Ok(())
 }
 
-/// What a start that was refused comes to, once the damage of the journal of this name is told.
+/// What a start that was refused comes to, once the damage of the journal of this name is reported.
 fn refuse<E: Write>(
     alloc: Global,
     path: &str,
@@ -115,7 +115,7 @@ fn is_empty<T: Files<File = File>>(rt: &T, path: &str) -> bool {
     matches!(fs::metadata(rt, path), Ok(found) if found.len() == 0)
 }
 
-/// The server of this number, on the journal that the folder has of it. A missing one is made, and is noted among those that were. Damage is told,
+/// The server of this number, on the journal that the folder has of it. A missing one is made, and is noted among those that were. Damage is reported,
 /// and so is a last entry that was dropped.
 fn start_one<T: Files<File = File>, E: Write>(
     rt: &T,
@@ -157,7 +157,7 @@ fn start_one<T: Files<File = File>, E: Write>(
     }
 }
 
-/// The run behind all those of which a server holds a tag. After the last run there is none.
+/// The run after all those of which a server holds a tag. After the last run there is none.
 fn next_run(servers: &VecDeque<Box<Journaled>>) -> Result<u32, RunFault>
     ensures counted { IfOk result (λ run. 0 < run) }
     ensures later { IfOk result (λ run. All (λ server. HasRunsBefore run server.value.core) servers.now.items) }
@@ -173,7 +173,7 @@ fn next_run(servers: &VecDeque<Box<Journaled>>) -> Result<u32, RunFault>
     }
 }
 
-/// Puts each of the servers, from server 0 on, behind those that were started, on the journal that the folder has of it.
+/// Puts each of the servers, from server 0 on, after those that were started, on the journal that the folder has of it.
 fn start_each<T: Files<File = File>, E: Write>(
     rt: &T,
     alloc: Global,

@@ -1,6 +1,6 @@
-//! A script over sockets: its servers with their journals in files, its phases one behind another, and the books at the end.
+//! A script over sockets: its servers with their journals in files, its phases one after another, and the books at the end.
 //!
-//! Callers see [`run_on_sockets`] as what it puts behind what an output holds, and how it ends: `IsNetFault` says which faults may end it,
+//! Callers see [`run_on_sockets`] as what it puts after what an output holds, and how it ends: `IsNetFault` says which faults may end it,
 //! `KeepsUnstarted` that nothing is printed where a server doesn't start. Which lines are printed, no clause says. Servers listen at ports of the
 //! loopback address that the system picks, and each session has a thread of its own (`bayou_fleet`).
 //!

@@ -1,4 +1,4 @@
-//! The phases of a script over a network, one behind another.
+//! The phases of a script over a network, one after another.
 ghost use Rattle.std.specs.Prelude.{◌<◌, ◌≤◌, IfErr, OnOk};
 ghost use Rattle.bayou_print.specs.Waiting.{stage};
 ghost use Rattle.bayou_socket_run.specs.Inner.Telling.{Tells};
@@ -141,7 +141,7 @@ where
     })
 }
 
-/// Runs all phases, one behind another. Then the links of the sessions are closed.
+/// Runs all phases, one after another. Then the links of the sessions are closed.
 pub(crate) fn run_phases<K, T, W>(
     rt: &T,
     alloc: Global,

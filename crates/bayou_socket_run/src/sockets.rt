@@ -134,7 +134,7 @@ where
     )
 }
 
-/// Runs the phases, and writes what still waits behind them: what was printed before a fault is written too. What the servers came to is given
+/// Runs the phases, and writes what still waits after them: what was printed before a fault is written too. What the servers came to is given
 /// beside.
 fn pass<K, T, W>(
     rt: &T,
@@ -376,7 +376,7 @@ where
 
 /// Runs a script over sockets: each of its servers has its journal in the folder of this name, and listens at a port of the loopback address
 /// that the system picks; each session has a thread of its own. The lines of a phase are written at its end. Where a journal is damaged, that is
-/// told beside, and so is a last entry that was dropped.
+/// reported beside, and so is a last entry that was dropped.
 pub fn run_on_sockets<T, W, E>(
     rt: &T,
     alloc: Global,

@@ -16,7 +16,7 @@ abbrev pub taken_of : {E : Type 0} → Result ℕ E → List ℕ → List ℕ
 taken_of (Ok count) text = take count text
 taken_of (Err error) text = []
 
--- the turns that are left behind so many line feeds: all of them for another line, or those that there were
+-- the turns that are left after so many line feeds: all of them for another line, or those that there were
 abbrev pub turns_behind : ℕ → ℕ → ℕ
 turns_behind zero turns_left = turns_left
 turns_behind (suc lines) turns_left = MAX_TURNS

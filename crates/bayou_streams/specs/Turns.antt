@@ -23,7 +23,7 @@ failed_behind has_failed (Ok turn) = has_failed
 failed_behind has_failed (Err Failed) = true
 failed_behind has_failed (Err TooManyTurns) = has_failed
 
--- a fault is told only where a call failed, or no turn is left
+-- a fault is reported only where a call failed, or no turn is left
 abbrev pub StopsStream : Bool → ℕ → StreamFault → Type 0
 StopsStream has_failed turns_left Failed = has_failed ≡ true
 StopsStream has_failed turns_left TooManyTurns = turns_left ≡ 0

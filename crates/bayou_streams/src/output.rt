@@ -45,7 +45,7 @@ impl<W: Write> Output<W> {
         }
     }
 
-    // Counts the lines that end in what the writer took. Behind one, another line begins, which has all turns again.
+    // Counts the lines that end in what the writer took. After one, another line begins, which has all turns again.
     fn count_lines(&mut self, taken: &[u8])
         ensures lines { self.new.lines ≡ counted self.old.lines (line_feeds taken.now) }
         ensures left { self.new.channel.turns_left ≡ turns_behind (line_feeds taken.now) self.old.channel.turns_left }
@@ -89,7 +89,7 @@ impl<W: Write> Output<W> {
         ensures stops { IfErr result (StopsStream self.new.channel.write_failed self.new.channel.turns_left) }
         // No call of it failed where the whole was written.
         ensures clean { OnOk result (self.new.channel.write_failed ≡ true → self.old.channel.write_failed ≡ true) }
-        // Behind a whole line there are as many turns left as there may be.
+        // After a whole line there are as many turns left as there may be.
         ensures ready { OnOk result (IsEmptyOrEndsWith text.now 10 → self.old.channel.turns_left ≤ self.new.channel.turns_left) }
     {
         let mut rest = text;

@@ -62,7 +62,7 @@ impl<R: Read, P: Patience> Read for Patient<R, P> {
     ghost remaining = { λ p. R.remaining p.reader.reader };
 
     /// Reads what comes first, as the reader does. Before each call of it the patience is asked whether to wait. So the reader is called once
-    /// for each yes, and for nothing else; and bytes are given up only where a call failed, where the answer was no, or behind [`MAX_WAITS`]
+    /// for each yes, and for nothing else; and bytes are given up only where a call failed, where the answer was no, or after [`MAX_WAITS`]
     /// calls.
     fn read(&mut self, buf: &mut [u8]) -> io::Result<usize>
         ensures bound { ReadsAtMost result buf.new }

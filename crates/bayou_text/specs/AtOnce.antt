@@ -24,7 +24,7 @@ tokens_of d = json_tokens (outline d)
 abbrev pub all_tokens : List Data → List Token
 all_tokens ds = flat_map tokens_of ds
 
--- where it goes well, these tokens stand behind what was written
+-- where it goes well, these tokens stand after what was written
 abbrev pub Adds : {E : Type 0} → Result (Unit {0}) E → Written → Written → List Token → Type 0
 Adds r old new ts = OnOk r ((new.before ≡ old.before) × (new.tokens ≡ old.tokens ++ ts))
 
@@ -44,7 +44,7 @@ operation_head word who place = string word ∷ count_json who ∷ count_json pl
 
 -- ---- a Write whose program is an update alone
 
--- {"update":[op, ..]}, or the same behind the empty "check" and "merge"
+-- {"update":[op, ..]}, or the same after the empty "check" and "merge"
 abbrev pub update_json : Bool → List Op → Data
 update_json false ops = object (member (codes "update") (list_json op_json ops) no_members)
 update_json true ops =

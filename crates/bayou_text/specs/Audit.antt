@@ -21,11 +21,11 @@ use Rattle.bayou_text.specs.Values.{key_in}
 abbrev pub padded : List ℕ → List ℕ
 padded counts = counts ++ replicate (SERVERS - length counts) 0
 
--- the counts that are told, and 0 for each server of which none is
+-- the counts that are given, and 0 for each server of which none is
 abbrev pub padded_in : List Data → Parsed (List ℕ)
 padded_in ds = all_in tally_in ds >>= λ counts. Ok (padded counts)
 
--- the vector, and how many of its counts are told
+-- the vector, and how many of its counts are given
 abbrev pub vector_of : List Data → Parsed (List ℕ × ℕ)
 vector_of ds =
     if nat_le 1 (length ds) && nat_le (length ds) SERVERS then (padded_in ds >>= λ vector. Ok (vector, length ds))

@@ -16,7 +16,7 @@ use Rattle.bayou_text.specs.Reading.{Parsed, ◌>>=◌, worded}
 use Rattle.bayou_text.specs.Said.{Said, servers, session, write, read, again, drop, log, fuse, lose, reopen, restart, pull, resend, totals, judge, survey, book, phase}
 use Rattle.bayou_text.specs.Values.{key_in}
 
--- ["servers", count] and ["servers", count, limit], behind the word
+-- ["servers", count] and ["servers", count, limit], after the word
 unfoldable pub servers_in : List Data → Parsed Said
 servers_in (count ∷ []) = count_in count >>= λ n. Ok (servers n None)
 servers_in (count ∷ limit ∷ []) = do
@@ -87,7 +87,7 @@ trial_of word parts =
     else (if bytes_eq word (codes "restart") then (alone_in parts >>= λ at. Ok (restart at))
     else Err (BadShape Command))))
 
--- ["pull", to, from] and ["pull", to, from, items], behind the word
+-- ["pull", to, from] and ["pull", to, from, items], after the word
 unfoldable pub pulling_in : List Data → Parsed Said
 pulling_in (to ∷ source ∷ []) = do
   at ← server_in to

@@ -17,17 +17,17 @@ use Rattle.bayou_text.specs.Numbers.{integer_in, most_in}
 use Rattle.bayou_text.specs.Reading.{Parsed, ◌>>=◌, worded}
 use Rattle.bayou_text.specs.Values.{key_in, prefix_in, value_in}
 
--- behind a word: a key alone
+-- after a word: a key alone
 unfoldable pub named_in : List Data → Parsed (List ℕ)
 named_in (key ∷ []) = key_in key
 named_in _ = Err (BadShape Arity)
 
--- behind a word: a key, and one more member
+-- after a word: a key, and one more member
 unfoldable pub keyed_in : List Data → Parsed (List ℕ × Data)
 keyed_in (key ∷ last ∷ []) = key_in key >>= λ name. Ok (name, last)
 keyed_in _ = Err (BadShape Arity)
 
--- ["plus", key, n], behind its word
+-- ["plus", key, n], after its word
 abbrev pub plus_in : List Data → Parsed Term
 plus_in parts = do
   named ← keyed_in parts
@@ -47,7 +47,7 @@ array_term_in d = ok_or (worded d) (BadShape Form) >>= λ parts. term_of parts.0
 unfoldable pub term_in : Data → Parsed Term
 term_in d = option_map_or (λ _. array_term_in d) (as_array d) (value_in d >>= λ value. Ok (Lit value))
 
--- ["put", key, term], behind its word
+-- ["put", key, term], after its word
 abbrev pub put_in : List Data → Parsed Op
 put_in parts = do
   named ← keyed_in parts
@@ -62,21 +62,21 @@ op_of word parts =
 unfoldable pub op_in : Data → Parsed Op
 op_in d = ok_or (worded d) (BadShape Form) >>= λ parts. op_of parts.0 parts.1
 
--- ["equals", key, value], behind its word
+-- ["equals", key, value], after its word
 abbrev pub equals_in : List Data → Parsed Cond
 equals_in parts = do
   named ← keyed_in parts
   value ← value_in named.1
   Ok (Equals named.0 value)
 
--- ["atleast", key, n], behind its word
+-- ["atleast", key, n], after its word
 abbrev pub at_least_in : List Data → Parsed Cond
 at_least_in parts = do
   named ← keyed_in parts
   n ← integer_in named.1
   Ok (AtLeast named.0 n)
 
--- ["atmost", prefix, n], behind its word
+-- ["atmost", prefix, n], after its word
 unfoldable pub at_most_in : List Data → Parsed Cond
 at_most_in (prefix ∷ most ∷ []) = do
   begin ← prefix_in prefix

@@ -24,7 +24,7 @@ list_in d = ok_or (as_array d) (fault.BadShape Form) >>= λ items. Ok (listed it
 abbrev pub list_of : List ℕ → Data → Parsed (List Data)
 list_of name d = option_map_or list_in (get name d) (Ok [])
 
--- that there are too many is told before the faults of each
+-- that there are too many is reported before the faults of each
 abbrev pub few_in : {A : Type 0} → ℕ → ProgramFault → (Data → Parsed A) → List Data → Parsed (List A)
 few_in most many one_in ds = if nat_lt most (length ds) then Err (fault.Program many) else all_in one_in ds
 
@@ -44,7 +44,7 @@ alt_lists_in d = do
   steps ← ops_in (codes "ops") d
   Ok (record { when = record { items = conditions }; ops = record { items = steps } })
 
--- {"ops":[op, ..],"when":[condition, ..]}: an unknown member is told first
+-- {"ops":[op, ..],"when":[condition, ..]}: an unknown member is reported first
 unfoldable pub alt_in : Data → Parsed Alt
 alt_in d = ok_or (as_object d) (fault.BadShape Form) >>= λ members.
     if list_all is_alt_name (names members) then alt_lists_in d else Err (fault.BadShape Form)
@@ -68,7 +68,7 @@ lists_in d = do
     merge = record { items = alternatives };
   })
 
--- {"check":[condition, ..],"merge":[alternative, ..],"update":[op, ..]}: an unknown member is told first
+-- {"check":[condition, ..],"merge":[alternative, ..],"update":[op, ..]}: an unknown member is reported first
 unfoldable pub program_in : Data → Parsed Program
 program_in d = ok_or (as_object d) (fault.BadShape Form) >>= λ members.
     if list_all is_member_name (names members) then lists_in d else Err (fault.BadShape Form)

@@ -17,7 +17,7 @@ IsLimit limit = (1 ≤ limit) × (limit ≤ MAX_WRITES)
 abbrev pub IsFuse : ℕ → ℕ → Type 0
 IsFuse calls kept = ((1 ≤ calls) × (calls ≤ MAX_FUSE_CALLS)) × (kept ≤ MAX_FUSE_KEPT)
 
--- so many counts are told, and the others are 0
+-- so many counts are given, and the others are 0
 abbrev pub IsCutTo : ℕ → List ℕ → Type 0
 IsCutTo n vector = IsCount n × AllByRecursion (λ count. count ≡ 0) (drop n vector)
 
@@ -29,7 +29,7 @@ IsToldBy server (what.Write wid stamp deps) (Some n) = (wid.origin ≡ server) �
 IsToldBy server _ _ = ⊥
 
 -- the lines that are read: the type of a line leaves wider only how many servers and Writes there may be, the
--- numbers of a fuse, of a loss and of a cut, and how much of an entry or a Write is told
+-- numbers of a fuse, of a loss and of a cut, and how much of an entry or a Write is given
 abbrev pub IsReadable : Said → Type 0
 IsReadable (servers count limit) = IsCount count × IfSome limit IsLimit
 IsReadable (session who asks) = ⊤

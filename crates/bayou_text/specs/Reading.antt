@@ -44,12 +44,12 @@ abbrev pub names : Members → List (List ℕ)
 names no_members = []
 names (member name d ms) = name ∷ names ms
 
--- the word that a list begins with, and what stands behind it
+-- the word that a list begins with, and what stands after it
 abbrev pub headed : List Data → Option (List ℕ × List Data)
 headed [] = None
 headed (d ∷ ds) = option_map (λ word. (word, ds)) (as_str d)
 
--- the word that an array begins with, and what stands behind it
+-- the word that an array begins with, and what stands after it
 abbrev pub worded : Data → Option (List ℕ × List Data)
 worded d = option_and_then (λ items. headed (listed items)) (as_array d)
 

@@ -1,7 +1,7 @@
 use bayou_base::{Entry, ServerId};
 use bayou_lang::RestingWrite;
 
-/// What a line of an audit file tells, behind the line that says how many servers there were.
+/// What a line of an audit file tells, after the line that says how many servers there were.
 #[derive(Debug, Drop)]
 pub enum AuditLine {
     /// What became of an operation that a session tried.

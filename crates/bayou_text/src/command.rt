@@ -13,7 +13,7 @@ pub struct PlannedFailure {
     pub ghost to_come: { 0 < calls },
 }
 
-/// What a line asks of the servers and the sessions, behind the line that starts the servers.
+/// What a line asks of the servers and the sessions, after the line that starts the servers.
 #[derive(Debug, Drop)]
 pub enum Command {
     /// Opens a session that asks for these guarantees.

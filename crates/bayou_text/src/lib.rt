@@ -1,7 +1,7 @@
 //! Lines of JSON: what each line of a script or of an audit file says, and the one spelling of what is said.
 //!
 //! Callers see a [`Line`] as what it says, `said`: a command with its numbers, its key or its program, the entry of an
-//! audit, or a Write that is held, with how many counts of its vector are told. `Spells` in
+//! audit, or a Write that is held, with how many counts of its vector are given. `Spells` in
 //! `specs/Table` is the table of the lines: which JSON data spells which command, member by member. [`read_line`]
 //! answers exactly what the bytes spell, or the first fault, which `specs/Lines` and the files below it compute.
 //! `specs/Spelling` has one spelling of each line, which `bayou_text_writer` writes; those of an entry and of a held Write, by which the reader

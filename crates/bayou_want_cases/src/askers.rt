@@ -98,7 +98,7 @@ fn lists(rt: &impl Abort, alloc: Global, asker: &mut Asker, link: &mut Over<'_>)
     comes_to(asker.list(alloc, link, server_id(rt, 0), &asked))
 }
 
-/// Whether rows are told at last.
+/// Whether rows come at last.
 fn lists_at_last(rt: &impl Abort, alloc: Global, asker: &mut Asker, reply: &[u8]) -> bool {
     let mut link = over(reply);
     let answer = match lists(rt, alloc, asker, &mut link) {
@@ -126,7 +126,7 @@ fn asks_after(
     comes_to(asker.became(alloc, link, server_id(rt, 0), &asked))
 }
 
-/// Whether that is told at last.
+/// Whether that is reported at last.
 fn asks_after_at_last(rt: &impl Abort, alloc: Global, asker: &mut Asker, reply: &[u8]) -> bool {
     let mut link = over(reply);
     let answer = match asks_after(rt, alloc, asker, &mut link) {
@@ -137,7 +137,7 @@ fn asks_after_at_last(rt: &impl Abort, alloc: Global, asker: &mut Asker, reply: 
     answer == Some(true)
 }
 
-/// Whether the vector is told, of one Write; or nothing where memory was refused.
+/// Whether the vector comes, of one Write; or nothing where memory was refused.
 fn tells(alloc: Global, link: &mut Over<'_>) -> Option<bool> {
     match link.vector(alloc) {
         Ok(vector) => Some(vector.counts()[0] == 1),
@@ -156,7 +156,7 @@ fn tells_at_last(alloc: Global, reply: &[u8]) -> bool {
     answer == Some(true)
 }
 
-/// Whether a session is served in all that it asks for, and then needs what it was told; and a link is told what it asks for.
+/// Whether a session is served in all that it asks for, and then needs what it heard; and a link hears what it asks for.
 fn goes(rt: &impl Abort, alloc: Global, replies: &Replies) -> bool {
     let asks = Asks {
         ryw: true,

@@ -18,7 +18,7 @@ enum Change {
     Cut(usize),
     /// Bits of the byte at this place are turned: these.
     Turned(usize, u8),
-    /// These come behind them.
+    /// These come after them.
     Longer(&'static [u8]),
 }
 
@@ -27,9 +27,9 @@ enum Change {
 enum Finding {
     /// So many bodies, with so many bytes dropped.
     Opens(usize, usize),
-    /// The same, and the last entry is told, from this byte on.
+    /// The same, and the last entry is reported, from this byte on.
     Tells(usize, usize, usize),
-    /// Damage behind so many bytes, of so many; nothing is changed.
+    /// Damage after so many bytes, of so many; nothing is changed.
     Damaged(usize, usize),
 }
 
@@ -51,7 +51,7 @@ static CASES: [(Change, Finding); 20] = [
     (Turned(85, 64), Opens(2, 39)),
     (Turned(85, 1), Damaged(84, 39)),
     (Turned(84, 64), Damaged(84, 39)),
-    // A bit of the second body; its length: more than there is behind it, and just so much.
+    // A bit of the second body; its length: more than there is after it, and just so much.
     (Turned(50, 4), Damaged(47, 76)),
     (Turned(48, 64), Damaged(47, 76)),
     (Turned(48, 41), Damaged(47, 76)),

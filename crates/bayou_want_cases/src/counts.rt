@@ -40,14 +40,14 @@ fn is_taken_away(number: usize) -> bool {
     number % 7 == 3
 }
 
-/// Whether programs count keys, from the first of which on a database keeps those that are present.
+/// Whether programs count keys; from the first of them on a database keeps those that are present.
 #[derive(Clone, Copy, Debug, PartialEq, Eq)]
 enum Checks {
     Nothing,
     ANumber,
 }
 
-/// The program of this op, behind such a check, which holds.
+/// The program of this op, after such a check, which holds.
 fn program_of(rt: &impl Abort, checks: Checks, op: Op) -> Program {
     let made = match checks {
         Checks::Nothing => Program::new(&[], &[op], &[]),

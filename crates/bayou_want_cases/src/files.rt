@@ -92,7 +92,7 @@ fn reads<D: Device>(alloc: Global, device: &mut D, bytes: &[u8]) -> Option<bool>
     }
 }
 
-/// Behind what was synced, and what wasn't.
+/// After what was synced, and what wasn't.
 const TAIL: &[u8] = b"a tail that is longer than what the device had before";
 
 /// Whether a crash leaves what was synced and the tail, where each call that lacks memory is made again.

@@ -30,7 +30,7 @@ pub fn session_id(rt: &impl Abort, index: u8) -> SessionId {
     SessionId::new(index).expect(rt, "no session")
 }
 
-/// The tag of the place behind so many: a fresh one for a server that holds so many Writes, where those before it were given theirs so.
+/// The tag of the place after so many: a fresh one for a server that holds so many Writes, where those before it were given theirs so.
 pub fn tag_behind(rt: &impl Abort, count: usize) -> Tag {
     values::tag_behind(count).expect(rt, "no tag")
 }

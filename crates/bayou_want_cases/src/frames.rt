@@ -38,7 +38,7 @@ fn comes_at_last(alloc: Global, frames: &mut Frames) -> bool {
     }
 }
 
-/// Whether the Item's Write is read at rest and has its bytes, or nothing but want of memory is told.
+/// Whether the Item's Write is read at rest and has its bytes, or nothing but want of memory is reported.
 fn is_decoded(alloc: Global) -> Option<bool> {
     let (_, bytes) = ITEM.split_at(3);
     match decode_resting_write(alloc, bytes) {

@@ -15,7 +15,7 @@ const ALL: Asks = Asks {
     mw: true,
 };
 
-/// A session behind its read of so many Writes, at the place of that number.
+/// A session after its read of so many Writes, at the place of that number.
 fn reader(rt: &impl Abort, index: u8, count: u32) -> Session {
     let mut session = Session::new(session_id(rt, index), 7, ALL);
     for _ in 0..count {
@@ -53,7 +53,7 @@ fn places_in(rt: &impl Abort, alloc: Global, bytes: &[u8]) -> (u32, u32) {
     }
 }
 
-/// What a session that is kept behind a failing call answers, where the call of this number fails and adds so many bytes.
+/// What a session that is kept after a failing call answers, where the call of this number fails and adds so many bytes.
 fn failing(rt: &impl Abort, alloc: Global, call: u32, kept: usize) -> (bool, (u32, u32)) {
     let mut device = MemoryDevice::new(alloc, OpenGate);
     if call > 0 {

@@ -8,12 +8,12 @@ use bayou_streams::CountedChannel;
 use std::alloc::Global;
 use std::io;
 
-/// What is told the server of the answer, which holds no Write of its own.
+/// What a server that holds no Write of its own learns of the answer.
 fn told(alloc: Global, id: ServerId, answer: &[u8]) -> Result<bool, ChannelFault> {
     has_lost(alloc, id, 0, &mut CountedChannel::new(answer, io::sink()))
 }
 
-/// Whether this is told of the answer, or want of memory first and this then.
+/// Whether this is reported of the answer, or want of memory first and this then.
 fn is_told_at_last(alloc: Global, id: ServerId, answer: &[u8], is_lost: bool) -> bool {
     match told(alloc, id, answer) {
         Err(ChannelFault::OutOfMemory) => told(alloc, id, answer) == Ok(is_lost),
@@ -21,7 +21,7 @@ fn is_told_at_last(alloc: Global, id: ServerId, answer: &[u8], is_lost: bool) ->
     }
 }
 
-/// For runs in which any one allocation is refused: nothing is told then that isn't so.
+/// For runs in which any one allocation is refused: nothing is reported then that isn't so.
 #[test]
 fn one_want_of_memory_tells_nothing_of_lost_writes(rt: HostRuntime) {
     let id = server_id(&rt, 0);

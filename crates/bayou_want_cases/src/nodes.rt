@@ -32,7 +32,7 @@ fn adopts<L: Desks, R: Wait>(rt: &R, alloc: Global, node: &Node<Memory, L>) -> O
     Some(adopted.ok()?.is_some())
 }
 
-/// The tag of the place behind those of the node's own Writes: a fresh one, where these were given theirs so.
+/// The tag of the place after those of the node's own Writes: a fresh one, where these were given theirs so.
 fn next_tag<L: Desks, R: Wait + Abort>(rt: &R, node: &Node<Memory, L>) -> Tag {
     let own = node.offer(rt).get(node.id());
     values::tag(own.saturating_add(1)).expect(rt, "no tag")
@@ -145,7 +145,7 @@ fn writes_three<L: Desks, R: Wait + Abort>(
     Some(made)
 }
 
-/// What becomes of them at a node, where the second server's Write is taken then, and all are told.
+/// What becomes of them at a node, where the second server's Write is taken then, and all are reported.
 fn goes<L: Desks, R: Wait + Abort>(
     rt: &R,
     alloc: Global,

@@ -8,7 +8,7 @@ use bayou_server::{JournalFault, LastHeld, StartFault};
 use std::alloc::Global;
 use std::process::Abort;
 
-/// How many Writes a start finds, and how many bytes behind them are dropped.
+/// How many Writes a start finds, and how many bytes after them are dropped.
 type Found = Result<(usize, usize), StartFault>;
 
 /// Three Writes of server 0: 292 bytes.
@@ -20,7 +20,7 @@ const THREE: &str = "4241594f554a4e4c 0100
     003c 0000000003 00000003 <old-two> 00010104726f6f6d0101000000000000000300
     33b9670e0d0076c8c9f1415691b3f0781077a1d0250b26daceb2f1fac30ea17f";
 
-/// The mark behind them, which raises the journal.
+/// The mark after them, which raises the journal.
 const MARK: &str = "0001 03 f455ebd456ee5d78f4173b0d85848e05ce279c181b08de177fcfdfffadbdfd49";
 
 /// How many bytes a mark has.
@@ -57,7 +57,7 @@ fn dropped_of(kept: usize) -> usize {
     kept % MARK_BYTES
 }
 
-/// What of three Writes and a torn mark behind them fails: how many bytes of the mark there are, the device call of a start that fails, and
+/// What of three Writes and a torn mark after them fails: how many bytes of the mark there are, the device call of a start that fails, and
 /// how many bytes are left; where that isn't said it is the append of the mark, of which so many are added.
 static FAILING: [(usize, u32, Option<usize>); 9] = [
     // Nothing of the mark: the read, the append, the sync.

@@ -39,5 +39,5 @@ fn one_want_of_memory_costs_no_record(rt: HostRuntime) {
 /// What stands before the counts, all of which are 0: that there is a tag, the tag, and name and clock of the Write.
 const FRONT: &[u8] = b"\x01\x00\0\0\0\x01\0\0\0\x01\x00\0\0\0\x01\0\0\0\x01";
 
-/// What stands behind them: a program that puts 1 at `room`.
+/// What stands after them: a program that puts 1 at `room`.
 const PROGRAM: &[u8] = b"\x00\x01\x01\x04room\x01\x01\0\0\0\0\0\0\0\x01\x00";

@@ -40,7 +40,7 @@ fn comes_of(
     restored(alloc, server.as_mut(), &gathered)
 }
 
-/// Writes of a store, of which another server could hold each behind those before it; but the first one never made its last there so.
+/// Writes of a store, of which another server could hold each after those before it; but the first one never made its last there so.
 static FORGED: [(&[Given], u32); 4] = [
     // It doesn't count a Write that the one before it counted.
     (
@@ -234,7 +234,7 @@ fn the_first_difference_is_told(rt: HostRuntime) {
     }
 }
 
-/// Each device call of a restoring fails in turn: it is told, and what is held is a front of what was to be.
+/// Each device call of a restoring fails in turn: it is reported, and what is held is a front of what was to be.
 #[test]
 fn a_device_that_fails_ends_it(rt: HostRuntime) {
     let alloc = rt.alloc();

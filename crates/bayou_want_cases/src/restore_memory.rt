@@ -43,8 +43,8 @@ fn gather(rt: &impl Abort, alloc: Global) -> Gathered {
     gathered
 }
 
-/// For runs in which any one allocation is refused: a server is restored then, or that is told, and one that is begun anew is. Where it is the
-/// device that found no memory, that is told as a failed call.
+/// For runs in which any one allocation is refused: a server is restored then, or that is reported, and one that is begun anew is. Where it is the
+/// device that found no memory, that is reported as a failed call.
 #[test]
 fn one_want_of_memory_ends_a_restoring_at_most(rt: HostRuntime) {
     let alloc = rt.alloc();

@@ -87,7 +87,7 @@ fn a_lost_server_has_its_own_writes_again(rt: HostRuntime) {
     }
 }
 
-/// Whether the server holds the Write with this clock, behind these.
+/// Whether the server holds the Write with this clock, after these.
 fn has_made(rt: &impl Abort, server: &Served, seq: u32, clock: u32, deps: [u32; 3]) -> bool {
     match server.find(wid(rt, 0, seq)) {
         Some(write) => write.stamp().clock == clock && *write.deps() == vector(rt, deps),

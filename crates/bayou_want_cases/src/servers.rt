@@ -69,7 +69,7 @@ fn tells_at_last(alloc: Global, server: &Served, held: usize) -> bool {
 }
 
 /// The last Write is added and not synced; it, or the one before it, may be refused for memory before the device is called. Whether no
-/// fewer than three are held then, and told.
+/// fewer than three are held then, and reported.
 fn doubts_at_last(rt: &impl Abort, alloc: Global, server: &mut Served) -> bool {
     fuse(server, 2, 0);
     let _ = puts(rt, alloc, server, 9);

@@ -135,7 +135,7 @@ fn reopens_at_last(alloc: Global, reply: &[u8]) -> bool {
     answer == Some(true)
 }
 
-/// Whether one Write is told; or nothing where memory was refused.
+/// Whether one Write is reported; or nothing where memory was refused.
 fn dumps(alloc: Global, link: &mut Over<'_>) -> Option<bool> {
     match link.dump(alloc) {
         Ok(writes) => Some(writes.len() == 1),
@@ -172,7 +172,7 @@ fn reader<K: Ledgers>(rt: &impl Abort, shares: Vec<Share<K>>) -> Client<K> {
     Client::new(session, share)
 }
 
-/// Whether a session with the last of these shares is served in all that it asks for, and then needs what it was told.
+/// Whether a session with the last of these shares is served in all that it asks for, and then needs what it heard.
 fn goes<K: Ledgers, R: Wait + Abort>(
     rt: &R,
     alloc: Global,

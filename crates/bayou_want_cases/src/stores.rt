@@ -54,7 +54,7 @@ pub fn start(rt: &impl Abort, alloc: Global, index: u8) -> Box<Served> {
     begun_at_last(rt, alloc, (index, COUNT, LIMIT))
 }
 
-/// Whether the server makes a Write, under the tag behind those of all that it holds.
+/// Whether the server makes a Write, under the tag after those of all that it holds.
 pub fn makes(rt: &impl Abort, alloc: Global, server: &mut Served, number: u32) -> bool {
     let held = u32::try_from(server.receipts().len()).ok();
     let place = held.expect(rt, "too many Writes").saturating_add(1);

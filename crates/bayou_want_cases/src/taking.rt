@@ -75,7 +75,7 @@ fn is_want(fault: TakeFault) -> bool {
     matches!(fault, TakeFault::OutOfMemory | TakeFault::Journal)
 }
 
-/// Gives the Writes until all are held, again where a growth was refused. Whether that was told once at most and nothing else was, and all
+/// Gives the Writes until all are held, again where a growth was refused. Whether that was reported once at most and nothing else was, and all
 /// are held.
 fn is_taken_at_last(rt: &impl Abort, alloc: Global, server: &mut Served) -> bool {
     let mut is_so = true;

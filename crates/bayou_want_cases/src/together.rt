@@ -52,7 +52,7 @@ fn is_refused(told: TookAll) -> bool {
 }
 
 /// How many of the Writes a server holds that was reopened, where its device failed at this call with so many bytes added; and whether that was
-/// told as it is, and it then takes the others.
+/// reported as it is, and it then takes the others.
 fn held_after(rt: &impl Abort, alloc: Global, call: u32, kept: usize) -> (usize, bool) {
     let mut server = start(rt, alloc, 0);
     fuse(server.as_mut(), call, kept);
@@ -125,7 +125,7 @@ fn has_all(rt: &impl Abort, alloc: Global, server: &Served) -> bool {
     }
 }
 
-/// Gives the Writes until all are held. Whether each answer was as it must be, and want of memory was told once at most.
+/// Gives the Writes until all are held. Whether each answer was as it must be, and want of memory was reported once at most.
 fn is_taken_at_last(rt: &impl Abort, alloc: Global, server: &mut Served) -> bool {
     let mut is_so = true;
     let mut had_want = false;

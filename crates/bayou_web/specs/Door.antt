@@ -20,7 +20,7 @@ pub record IsHere (door : Door) (head : Parts) : Type 0 where
   pub form : uri_authority head.uri ≡ None
   pub host : HasField head.headers (codes "host") (string_bytes door.host)
 
--- from whoever was told the token
+-- from whoever knows the token
 abbrev pub Knows : Door → Parts → Type 0
 Knows door head = HasField head.headers (codes "authorization") (string_bytes door.bearer)
 

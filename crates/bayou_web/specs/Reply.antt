@@ -59,7 +59,7 @@ IsRefusal refusal = IsResponse (status_for refusal) (fields_for (codes "text/pla
 abbrev pub IsFailure : Response → Type 0
 IsFailure = IsResponse 500 [] []
 
--- the text that was told, if one was, or that there was no memory for it
+-- the text that was given, if one was, or that there was no memory for it
 abbrev pub Tells : Option (List ℕ) → Response → Type 0
 Tells None response = IsFailure response
 Tells (Some text) response = IsText text response ⊎ IsFailure response

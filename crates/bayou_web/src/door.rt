@@ -10,7 +10,7 @@ use bytes::Bytes;
 use http::{HeaderMap, Request};
 use std::alloc::{AllocError, Global};
 
-/// What may come in, by the address that is listened at and a word that is told to one person alone.
+/// What may come in, by the address that is listened at and a word that one person alone knows.
 #[derive(Debug, Drop)]
 pub struct Door {
     /// `127.0.0.1:8080`, as `Host` has to have it.

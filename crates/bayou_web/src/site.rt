@@ -22,7 +22,7 @@ pub struct Site<D: Drop> {
     desk: D,
 }
 
-// Puts the text that was told, or else says that there was no memory for it.
+// Puts the text that was given, or else says that there was no memory for it.
 fn tell(response: &mut Response, told: Result<Vec<u8>, AllocError>)
     requires { IsResponse 200 (fields_for (codes "application/json")) [] response.old }
     ensures { MatchResult told (λ text. Tells (Some text.items) response.new) (λ _. Tells None response.new) }

@@ -4,7 +4,7 @@ ghost use Rattle.bayou_web.specs.Reply.{status_for, text_for};
 
 use http::StatusCode;
 
-/// What a person is told who reads a refusal.
+/// What a person learns who reads a refusal.
 pub const ELSEWHERE: &str =
     "Open the address that `bayou web` printed, with 127.0.0.1 and not with a name.\n";
 
@@ -68,7 +68,7 @@ impl Refusal {
         }
     }
 
-    /// What a person is told who reads it.
+    /// What a person learns who reads it.
     pub fn text(self) -> &'static str
         ensures { result.now ≡ text_for self }
     {

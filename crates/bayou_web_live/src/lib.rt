@@ -2,7 +2,7 @@
 //! browser of this machine (`bayou_web_serve`).
 //!
 //! Callers see [`serve_web`], which serves until it fails. The desk stays with the thread that calls it: that one does each line that is handed in, and asks
-//! servers what they hold as long as somebody looks. A request for what is seen is answered from what was told last, and waits for no server.
+//! servers what they hold as long as somebody looks. A request for what is seen is answered from what was learned last, and waits for no server.
 //!
 //! Callers owe that one process has a state file at a time. No clause says what a browser is sent, or when.
 #![tactic(auto)]

@@ -101,7 +101,7 @@ impl<T: Files<File = File> + Sockets + Wait + Clock> Looking<'_, T> {
         Ok(())
     }
 
-    // The rows that were told, if any were.
+    // The rows that came, if any did.
     fn show_rows(&self, seen: &mut Seen, rows: Option<SeenRows>) -> Result<(), AllocError> {
         let Some(told) = rows else {
             seen.rows_untold();
@@ -112,7 +112,7 @@ impl<T: Files<File = File> + Sockets + Wait + Clock> Looking<'_, T> {
         Ok(())
     }
 
-    /// Asks servers what they hold, and shows that: all rows where something changed, or where they weren't told at last.
+    /// Asks servers what they hold, and shows that: all rows where something changed, or where they didn't come last time.
     pub(crate) fn look(&mut self) -> Result<(), ConnectFault> {
         let (mut news, mut told) = (Vec::new(self.alloc), Vec::new(self.alloc));
         let is_new = self.desk.look(self.rt, &mut Output::new(&mut news))?;

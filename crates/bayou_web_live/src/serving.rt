@@ -176,7 +176,7 @@ where
 
 /// Serves the page of a desk at the servers of the plan, and prints its address with a token that nobody guesses, until the desk is at fault. With the key of a
 /// store a server that doesn't prove that it has that key is asked nothing. Where the plan asks for something else than the session did when it was kept, that is
-/// told to `errors`, and nothing is served: then it ends well, as refused.
+/// reported to `errors`, and nothing is served: then it ends well, as refused.
 pub fn serve_web<W, E, T>(
     rt: &T,
     alloc: Global,

@@ -4,7 +4,7 @@ use std::mem;
 use std::sync::{Condvar, Mutex, Wait};
 use std::time::{Clock, Duration};
 
-/// How many may wait for their turn at the most, beside the one whose line is done. The next is told at once that it is to ask again.
+/// How many may wait for their turn at the most, beside the one whose line is done. The next learns at once that it is to ask again.
 const MOST_WAITING: u32 = 2;
 
 /// A line that somebody handed in, and what became of it.
@@ -57,7 +57,7 @@ impl Lines {
         }
     }
 
-    // Takes what became of the line, if that was told. Then it is the next one's turn.
+    // Takes what became of the line, if that came. Then it is the next one's turn.
     fn hear(&mut self) -> Option<Vec<u8>> {
         if !matches!(self.turn, Turn::Answered(_)) {
             return None;
@@ -139,7 +139,7 @@ impl Counter {
         self.moved.notify_all();
     }
 
-    /// No line is done any more: whoever waits is told so. What became of the last one is still heard.
+    /// No line is done any more: whoever waits learns that. What became of the last one is still heard.
     pub fn close<T: Wait>(&self, rt: &T) {
         self.lines.lock(rt).is_closed = true;
         self.moved.notify_all();

@@ -24,13 +24,13 @@ use std::time::{Clock, Duration};
 /// For how long nobody is served where a connection can't be taken, in milliseconds.
 const PAUSE_MILLISECONDS: u64 = 200;
 
-/// What is told of a line that is no line.
+/// What is reported of a line that is no line.
 pub const NO_LINE: &str = "bayou: one line at a time, and none that is longer than a line may be\n";
 
-/// What is told where others wait.
+/// What is reported where others wait.
 const BUSY: &str = "bayou: other lines are being done; ask again\n";
 
-/// What is told where no line is done any more.
+/// What is reported where no line is done any more.
 const CLOSED: &str = "bayou: no line is done any more\n";
 
 /// The status of a line that can't be done.
@@ -48,7 +48,7 @@ pub struct Shown {
 }
 
 impl Shown {
-    /// Whether the rows were told as servers were asked last.
+    /// Whether the rows were reported as servers were asked last.
     pub fn is_current(&self) -> bool
         ensures { result ≡ self.now.seen.is_current }
     {
@@ -129,7 +129,7 @@ impl<'a, T> AtCounter<'a, T> {
     }
 }
 
-// What is told of a line that wasn't done.
+// What is reported of a line that wasn't done.
 fn not_done(alloc: Global, told: &str, status: u8) -> Result<Vec<u8>, AllocError>
     ensures { IfOk result (λ text. IsDone [] told.now status text.items) }
 {

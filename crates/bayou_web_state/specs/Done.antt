@@ -13,11 +13,11 @@ text_of bytes = if is_utf8 bytes then bytes else []
 unfoldable pub lines_tokens : List ℕ → List Token
 lines_tokens bytes = begin_array ∷ (map string (lines (text_of bytes)) ++ end_array ∷ [])
 
--- what is printed, and what is told beside that
+-- what is printed, and what is reported beside that
 abbrev pub said_tokens : (printed told : List ℕ) → List Token
 said_tokens printed told = key (codes "lines") ∷ (lines_tokens printed ++ key (codes "told") ∷ lines_tokens told)
 
--- {"lines": what is printed, "told": what is told beside that, "status": number}
+-- {"lines": what is printed, "told": what is reported beside that, "status": number}
 abbrev pub done_tokens : (printed told : List ℕ) → (status : ℕ) → List Token
 done_tokens printed told status =
     begin_object ∷ (said_tokens printed told ++ key (codes "status") ∷ number (decimal status) ∷ end_object ∷ [])

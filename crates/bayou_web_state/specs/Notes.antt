@@ -1,4 +1,4 @@
--- What a person is told once.
+-- What a person learns once.
 use Rattle.std.specs.Prelude.{◌≡◌, ◌++◌, ◌∷◌, [], ℕ, List, if◌then◌else◌, length, nat_le, remove, string_bytes}
 use Rattle.bayou_web_state.specs.declared.seen.Notice.{Notice}
 use Rattle.bayou_web_state.specs.declared.seen.TheConstants.{MAX_NOTICES}

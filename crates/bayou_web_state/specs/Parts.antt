@@ -1,4 +1,4 @@
--- The JSON of what is told beside rows (RFC 8259): this project's own form.
+-- The JSON of what is reported beside rows (RFC 8259): this project's own form.
 use Rattle.std.specs.Prelude.{ℕ, Bool, List, [], ◌∷◌, ◌++◌, Option, Some, None, codes, decimal, flat_map, if◌then◌else◌, map, String, string_bytes, take}
 use Rattle.std.specs.Net.Text.{socket_text}
 use Rattle.bayou_base.specs.declared.asks.Asks.{Asks}
@@ -47,7 +47,7 @@ server_tokens servers server = begin_object ∷ (place_tokens server ++ (held_to
 abbrev pub servers_tokens : (servers : ℕ) → List ServerSeen → List Token
 servers_tokens servers all = begin_array ∷ (flat_map (server_tokens servers) all ++ end_array ∷ [])
 
--- what an own Write was told to have become
+-- what an own Write was reported to have become
 abbrev pub told_word : Option Became → List ℕ
 told_word None = codes "untold"
 told_word (Some Updated) = codes "update"

@@ -13,7 +13,7 @@ use std::str;
 pub struct Done<'a> {
     /// What is printed of it.
     pub printed: &'a [u8],
-    /// What is told beside that.
+    /// What is reported beside that.
     pub told: &'a [u8],
     /// The exit status that a call of `bayou connect` would have that does this line alone.
     pub status: u8,
@@ -59,7 +59,7 @@ fn put_lines(out: &mut Writer, alloc: Global, bytes: &[u8]) -> Result<(), AllocE
     out.end_array()
 }
 
-// What is printed, and what is told beside that.
+// What is printed, and what is reported beside that.
 fn put_said(out: &mut Writer, alloc: Global, printed: &[u8], told: &[u8]) -> Result<(), AllocError>
     ensures put { OnOk result (out.new.tokens ≡ out.old.tokens ++ said_tokens printed.now told.now) }
     ensures before { out.new.before ≡ out.old.before }

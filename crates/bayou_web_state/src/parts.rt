@@ -1,4 +1,4 @@
-//! What is told beside rows, as JSON.
+//! What is reported beside rows, as JSON.
 ghost use Rattle.std.specs.Prelude.{◌≤◌, ◌≡◌, ◌++◌, ◌∷◌, [], IfOk, OnOk, codes, decimal, map, string_bytes};
 ghost use Rattle.json.specs.Token.{boolean, key, number, string};
 ghost use Rattle.std.specs.Net.Text.{socket_text};
@@ -158,7 +158,7 @@ pub(crate) fn put_servers(
     out.end_array()
 }
 
-// What became of an own Write as it was told last: its update, an alternative of its merge procedure, or nothing.
+// What became of an own Write as it was reported last: its update, an alternative of its merge procedure, or nothing.
 fn told_text(alloc: Global, told: Option<Became>) -> Result<String, AllocError>
     ensures { IfOk result (λ text. string_bytes text ≡ told_word told) }
 {

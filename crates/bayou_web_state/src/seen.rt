@@ -53,7 +53,7 @@ fn kept_text(alloc: Global, text: Option<&str>) -> Result<Option<String>, AllocE
     }
 }
 
-/// An own Write that wasn't told as final yet, and what it was told to have become last, if it was.
+/// An own Write that wasn't reported as final yet, and what it was last reported to have become, if it was.
 #[derive(Clone, Copy, Debug, PartialEq, Eq)]
 pub struct OwnTold {
     pub wid: Wid,
@@ -67,7 +67,7 @@ pub struct Own {
     pub line: Option<String>,
 }
 
-/// Something that a person is told once.
+/// Something that a person learns once.
 #[derive(Debug, Drop)]
 pub struct Notice {
     /// Which it is, from 1 on.
@@ -88,14 +88,14 @@ pub struct SeenSession {
 /// What is seen of a store, as servers told it last.
 #[derive(Drop)]
 pub struct Seen {
-    /// How many counts of a vector are told.
+    /// How many counts of a vector are given.
     servers_number: u8,
     /// As whom the person claims.
     name: Option<String>,
     rows: Vec<Row>,
     /// Which server told the rows, and what it held.
     told: Option<(ServerId, Vector)>,
-    /// Whether the rows were told as servers were asked last.
+    /// Whether the rows were reported as servers were asked last.
     is_current: bool,
     servers: Vec<ServerSeen>,
     own: Vec<Own>,
@@ -130,7 +130,7 @@ impl Seen {
         }
     }
 
-    /// Whether the rows were told as servers were asked last.
+    /// Whether the rows were reported as servers were asked last.
     pub fn is_current(&self) -> bool
         ensures { result ≡ self.now.is_current }
     {

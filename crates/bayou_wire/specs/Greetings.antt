@@ -1,5 +1,5 @@
 -- The bytes of greetings, which greetings have a spelling, and what decoding one answers: this project's own format. A greeting is packed as a
--- frame is: a kind and a payload behind their length.
+-- frame is: a kind and a payload after their length.
 use Rattle.std.specs.Prelude.{◌≡◌, ◌≢◌, ◌⊎◌, ℕ, ◌<◌, ◌^◌, List, [], ◌∷◌, ◌++◌, Option, None, Some, Result, Ok, Err, length, IfSome}
 use Rattle.std.specs.List.{flat_map}
 use Rattle.std.specs.Int.{w64, to_be_bytes}
@@ -150,12 +150,12 @@ pub record SpellsGreeting (bytes : List ℕ) (greeting : Greeting) : Type 0 wher
 abbrev pub IsGreetingKind : ℕ → Type 0
 IsGreetingKind kind = (greeting : Greeting) × (greeting_kind greeting ≡ kind)
 
--- the payload begins with a whole payload of this kind, and this stands behind it
+-- the payload begins with a whole payload of this kind, and this stands after it
 abbrev pub GreetingBegins : ℕ → List ℕ → List ℕ → Type 0
 GreetingBegins kind payload rest =
     (greeting : Greeting) × IsGreeting greeting × (greeting_kind greeting ≡ kind) × (payload ≡ greeting_payload greeting ++ rest)
 
--- what is wrong with a kind and a payload, behind which this stands
+-- what is wrong with a kind and a payload, after which this stands
 abbrev pub IsGreetingFault : ℕ → List ℕ → List ℕ → DecodeFault → Type 0
 IsGreetingFault kind payload more BadKind = ¬ (IsGreetingKind kind)
 IsGreetingFault kind payload more Trailing = (rest : List ℕ) × (rest ++ more ≢ []) × GreetingBegins kind payload rest

@@ -19,7 +19,7 @@ abbrev pub record_head : Option Tag → List ℕ
 record_head None = layout.RECORD_OTHERS ∷ []
 record_head (Some tag) = layout.RECORD_OWN ∷ tag_bytes tag
 
--- the bytes with a count of zero for each server that the first two forms know nothing of, behind the counts that they have
+-- the bytes with a count of zero for each server that the first two forms know nothing of, after the counts that they have
 abbrev pub widened : List ℕ → List ℕ
 widened bytes = take layout.OLD_HEAD_BYTES bytes ++ (replicate layout.OLD_LACKED_BYTES 0 ++ drop layout.OLD_HEAD_BYTES bytes)
 

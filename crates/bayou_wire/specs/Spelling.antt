@@ -148,7 +148,7 @@ payload_bytes (frames.Reopened adopted) = optional_wid_bytes adopted
 payload_bytes (frames.Item write) = write_bytes write
 payload_bytes (frames.End number) = u32_bytes number
 
--- a kind and a payload behind their length, which counts both
+-- a kind and a payload after their length, which counts both
 abbrev pub packed : ℕ → List ℕ → List ℕ
 packed kind payload = to_be_bytes w16 (length payload + 1) ++ (kind ∷ payload)
 
@@ -199,7 +199,7 @@ pub record SpellsFrame (bytes : List ℕ) (frame : Frame) : Type 0 where
 abbrev pub BeginsWithWrite : List ℕ → List ℕ → Type 0
 BeginsWithWrite bytes rest = (write : Write) × IsWrite write × (bytes ≡ write_bytes write ++ rest)
 
--- What decoding a Write answers. Trailing: a Write, and bytes behind it. BadBody: no front of the bytes is a Write.
+-- What decoding a Write answers. Trailing: a Write, and bytes after it. BadBody: no front of the bytes is a Write.
 abbrev pub WriteAnswer : List ℕ → Result Write DecodeFault → Type 0
 WriteAnswer bytes (Ok write) = SpellsWrite bytes write
 WriteAnswer bytes (Err faults.Trailing) = (rest : List ℕ) × (rest ≢ []) × BeginsWithWrite bytes rest

@@ -18,7 +18,7 @@ use Rattle.bayou_wire.specs.Spelling.{IsFrame, SpellsFrame, frame_bytes, kind_of
 abbrev pub IsKind : ℕ → Type 0
 IsKind kind = (frame : Frame) × (kind_of frame ≡ kind)
 
--- the payload begins with a whole payload of this kind, and this stands behind it
+-- the payload begins with a whole payload of this kind, and this stands after it
 abbrev pub PayloadBegins : ℕ → List ℕ → List ℕ → Type 0
 PayloadBegins kind payload rest = (frame : Frame) × IsFrame frame × (kind_of frame ≡ kind) × (payload ≡ payload_bytes frame ++ rest)
 
@@ -29,7 +29,7 @@ IsPackedFault kind payload Trailing = (rest : List ℕ) × (rest ≢ []) × Payl
 IsPackedFault kind payload BadBody = IsKind kind × ((rest : List ℕ) → ¬ (PayloadBegins kind payload rest))
 IsPackedFault kind payload TooLong = ⊥
 
--- the bytes begin with this kind and payload behind their length, which is within the limit
+-- the bytes begin with this kind and payload after their length, which is within the limit
 pub record Packs (bytes : List ℕ) (kind : ℕ) (payload more : List ℕ) : Type 0 where
   pub short : length payload < MAX_FRAME_BYTES
   pub begins : bytes ≡ packed kind payload ++ more
@@ -43,7 +43,7 @@ abbrev pub HasPackedFault : List ℕ → DecodeFault → Type 0
 HasPackedFault bytes fault =
     (kind : ℕ) × (payload : List ℕ) × (more : List ℕ) × Packs bytes kind payload more × IsPackedFault kind payload fault
 
--- The fault that stands in a frame's place. A length of 0, and one above the limit, are told by the length alone; the others once the frame is whole.
+-- The fault that stands in a frame's place. A length of 0, and one above the limit, are seen by the length alone; the others once the frame is whole.
 abbrev pub IsFaulty : List ℕ → DecodeFault → Type 0
 IsFaulty bytes TooLong = (len : ℕ) × (MAX_FRAME_BYTES < len) × HasLength bytes len
 IsFaulty bytes BadKind = HasPackedFault bytes BadKind
@@ -80,7 +80,7 @@ spelling frame = frame_bytes frame
 abbrev pub spellings : List Frame → List ℕ
 spellings frames = flat_map spelling frames
 
--- frames, and what stands behind them
+-- frames, and what stands after them
 abbrev pub stream_of : List Frame → List ℕ → List ℕ
 stream_of frames rest = flat_map frame_bytes frames ++ rest
 
@@ -112,9 +112,9 @@ abbrev pub listed : Result (Vec Frame) FeedFault → Result (List Frame) FeedFau
 listed (Ok frames) = Ok frames.items
 listed (Err fault) = Err fault
 
--- One call: what was held back, the piece, the answer, and what is held back then, which is nothing once a fault was told.
--- Frames are given, or the fault is told where it stands first. A call that lacks memory leaves what was held back, which
--- has no fault. Once a fault was told there is no other answer.
+-- One call: what was held back, the piece, the answer, and what is held back then, which is nothing once a fault was reported.
+-- Frames are given, or the fault is reported where it stands first. A call that lacks memory leaves what was held back, which
+-- has no fault. Once a fault was reported there is no other answer.
 abbrev pub Fed : Option (List ℕ) → List ℕ → Result (List Frame) FeedFault → Option (List ℕ) → Type 0
 Fed (Some held) piece (Ok frames) (Some now) = TakesIn (held ++ piece) frames now
 Fed (Some held) piece (Ok frames) None = ⊥
@@ -140,7 +140,7 @@ frames_given [] = []
 frames_given (Ok frames ∷ answers) = frames ++ frames_given answers
 frames_given (Err fault ∷ answers) = frames_given answers
 
--- the stream so far: the pieces, but for those that lacked memory and those after a fault was told
+-- the stream so far: the pieces, but for those that lacked memory and those after a fault was reported
 abbrev pub bytes_fed : List (List ℕ) → List (Result (List Frame) FeedFault) → List ℕ
 bytes_fed [] answers = []
 bytes_fed (piece ∷ pieces) [] = []
@@ -149,7 +149,7 @@ bytes_fed (piece ∷ pieces) (Err (feeds.Fault fault) ∷ answers) = piece
 bytes_fed (piece ∷ pieces) (Err feeds.Failed ∷ answers) = []
 bytes_fed (piece ∷ pieces) (Err feeds.OutOfMemory ∷ answers) = bytes_fed pieces answers
 
--- what is held back, or that a fault was told, as the rest of the stream has it
+-- what is held back, or that a fault was reported, as the rest of the stream has it
 abbrev pub IsLeft : Option (List ℕ) → List ℕ → Type 0
 IsLeft (Some held) rest = Holds rest held
 IsLeft None rest = (fault : DecodeFault) × IsFaulty rest fault

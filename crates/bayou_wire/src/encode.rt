@@ -52,7 +52,7 @@ fn kind_byte(frame: &Frame) -> u8
     }
 }
 
-// A kind and a payload behind their length.
+// A kind and a payload after their length.
 pub(crate) fn packed_bytes(alloc: Global, kind: u8, payload: &[u8]) -> Result<Vec<u8>, AllocError>
     requires { length payload.now < MAX_FRAME_BYTES }
     ensures { IfOk result (λ bytes. bytes.items ≡ packed kind payload.now) }

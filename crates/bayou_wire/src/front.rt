@@ -14,7 +14,7 @@ use std::alloc::{AllocError, Global};
 enum Front<'a> {
     /// Less than a whole frame.
     Partial,
-    /// A whole frame, and the bytes behind it.
+    /// A whole frame, and the bytes after it.
     Whole(Frame, &'a [u8]),
     /// This, in a frame's place.
     Faulty(DecodeFault),
@@ -64,7 +64,7 @@ fn front_of(alloc: Global, bytes: &[u8]) -> Result<Front<'_>, AllocError>
 pub(crate) enum PlainFront<'a> {
     /// Less than a whole frame.
     Partial,
-    /// A whole frame, and the bytes behind it.
+    /// A whole frame, and the bytes after it.
     Whole(PlainFrame, &'a [u8]),
     /// This, in a frame's place.
     Faulty(DecodeFault),
@@ -113,7 +113,7 @@ pub(crate) fn plain_front_of(bytes: &[u8]) -> PlainFront<'_>
 pub(crate) struct Taken {
     pub frames: Vec<Frame>,
     pub left: usize,
-    /// What stands in a frame's place behind them, if it isn't less than a frame.
+    /// What stands in a frame's place after them, if it isn't less than a frame.
     pub fault: Option<DecodeFault>,
 }
 

@@ -82,7 +82,7 @@ pub struct Known {
     pub vector: Vector,
     /// How many Writes it holds at the most.
     pub limit: u32,
-    /// Of each origin the digest of all its Writes. A client isn't told them.
+    /// Of each origin the digest of all its Writes. A client doesn't get them.
     pub digests: Option<Digests>,
     /// Without whom its journal was last made again, if another server was left out: the first of them. Then what was final may have changed.
     pub without: Option<ServerId>,

@@ -385,7 +385,7 @@ fn greeting_reply_of(kind: u8, bytes: &[u8]) -> Option<(Greeting, &[u8])>
     }
 }
 
-/// What a payload of this kind says, and the bytes behind it.
+/// What a payload of this kind says, and the bytes after it.
 #[tactic(auto, unfolding(crate::specs::Inner::Greetings::greeting_at))]
 fn greeting_of(kind: u8, bytes: &[u8]) -> Option<(Greeting, &[u8])>
     ensures { Gives (λ x. (x.0, x.1.now)) result (greeting_at kind bytes.now) }
@@ -425,7 +425,7 @@ fn greeting_of(kind: u8, bytes: &[u8]) -> Option<(Greeting, &[u8])>
     }
 }
 
-/// A kind and a payload, and the bytes behind them.
+/// A kind and a payload, and the bytes after them.
 #[derive(Clone, Copy)]
 struct Unpacked<'a> {
     kind: u8,
@@ -433,7 +433,7 @@ struct Unpacked<'a> {
     behind: &'a [u8],
 }
 
-/// The kind and the payload that the bytes begin with, behind their length.
+/// The kind and the payload that the bytes begin with, after their length.
 fn unpack(bytes: &[u8]) -> Result<Unpacked<'_>, DecodeFault>
     ensures { IsUnpacked bytes.now result }
 {
@@ -458,7 +458,7 @@ fn unpack(bytes: &[u8]) -> Result<Unpacked<'_>, DecodeFault>
     })
 }
 
-/// The greeting of this kind and payload, all of it, where nothing stands behind it.
+/// The greeting of this kind and payload, all of it, where nothing stands after it.
 fn unpacked_greeting(kind: u8, payload: &[u8], behind: &[u8]) -> Result<Greeting, DecodeFault>
     ensures { UnpackedAnswer kind payload.now behind.now result }
 {

@@ -63,7 +63,7 @@ pub fn one_reading()
 {}
 
 /// After any calls the stream is the frames given, and then a rest that is no whole frame, however the stream was cut:
-/// what is held back is that rest, or the front of it that has a fault, or the fault that stands there was told.
+/// what is held back is that rest, or the front of it that has a fault, or the fault that stands there was reported.
 pub fn feeds_read_the_stream()
     ensures { (pieces : List (List ℕ)) (answers : List (Result (List Frame) FeedFault)) (new : Option (List ℕ)) → Feeds (Some []) pieces answers new
         → (rest : List ℕ) × Splits (bytes_fed pieces answers) (frames_given answers) rest × IsLeft new rest }
@@ -80,12 +80,12 @@ pub fn a_whole_frame_has_no_fault()
     ensures faulty { (frame : Frame) (behind : List ℕ) (fault : DecodeFault) → IsFrame frame → ¬ (IsFaulty (frame_bytes frame ++ behind) fault) }
 {}
 
-/// What comes behind bytes that have a fault doesn't change it.
+/// What comes after bytes that have a fault doesn't change it.
 pub fn a_fault_stays()
     ensures { (bytes more : List ℕ) (fault : DecodeFault) → IsFaulty bytes fault → IsFaulty (bytes ++ more) fault }
 {}
 
-/// The length in front of a frame counts what is behind the length.
+/// The length in front of a frame counts what comes after the length.
 pub fn a_frame_has_its_length()
     ensures { (frame : Frame) (behind : List ℕ) (len : ℕ) → IsFrame frame → HasLength (frame_bytes frame ++ behind) len
         → length (frame_bytes frame) ≡ LENGTH_BYTES + len }

@@ -86,12 +86,12 @@ pub const PROOF_BYTES: usize = 32;
 /// Of how many counts the digests are asked for at once at the most.
 pub const DIGESTS_AT_ONCE: usize = 16;
 
-/// How many rows are told at once at the most: as many as fit into a frame, the longest too.
+/// How many rows are listed at once at the most: as many as fit into a frame, the longest too.
 pub const ROWS_AT_ONCE: usize = 121;
 
-/// No row is left behind those that are told.
+/// No row is left after those that are listed.
 pub const NONE_LEFT: u8 = 0;
-/// A row is left behind them.
+/// A row is left after them.
 pub const MORE_LEFT: u8 = 1;
 
 /// A Write that isn't held.

@@ -11,7 +11,7 @@
 //! `specs/Lookups`: [`encode_greeting`] and [`decode_greeting`] do with it as the others do with a frame. It is no frame, and no frame is one: each is a
 //! bad kind in the other's place. A [`Page`] of rows fits into one, however long its keys and values are.
 //!
-//! [`Frames`] reads a stream in pieces: callers see it as the bytes that it holds back, or as nothing once a fault was told.
+//! [`Frames`] reads a stream in pieces: callers see it as the bytes that it holds back, or as nothing once a fault was reported.
 //! `specs/Stream` says what stands in a frame's place, and what one call makes of what was held back and the piece; [`laws`]
 //! says what that comes to over all calls: the frames of the stream, however it was cut.
 //!

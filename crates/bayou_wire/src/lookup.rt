@@ -9,9 +9,9 @@ pub struct RowsAsked {
     pub need: Vector,
     /// What the keys begin with.
     pub prefix: Prefix,
-    /// The key that they come after. Where there is none, they are told from the first on.
+    /// The key that they come after. Where there is none, they are listed from the first on.
     pub after: Option<Key>,
-    /// How many are told at the most.
+    /// How many are listed at the most.
     pub most: u16,
 }
 
@@ -28,7 +28,7 @@ pub struct FateAsked {
 pub struct Page {
     /// What the server held.
     pub vector: Vector,
-    /// Whether there are more behind them.
+    /// Whether there are more after them.
     pub more: bool,
     pub rows: ArrayVec<(Key, Value), ROWS_AT_ONCE>,
 }

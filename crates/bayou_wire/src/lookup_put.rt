@@ -1,4 +1,4 @@
-//! Writers of what is asked beside one key, and of what is told.
+//! Writers of what is asked beside one key, and of what is answered.
 ghost use Rattle.std.specs.Prelude.{◌≡◌, ◌<◌, ◌≤◌, ◌^◌, ◌++◌, length, OnOk};
 ghost use Rattle.std.specs.List.{flat_map, AllByRecursion};
 ghost use Rattle.std.specs.Option.{IfSome};

@@ -1,4 +1,4 @@
-//! Readers of what is asked beside one key, and of what is told.
+//! Readers of what is asked beside one key, and of what is answered.
 ghost use Rattle.std.specs.Prelude.{◌≡◌};
 ghost use Rattle.std.specs.Int.{w16};
 ghost use Rattle.bayou_wire.specs.Inner.Lookups.{became_at, fate_asked_at, fate_at, held_placed_at, more_at, optional_key_at, page_at, placed_at, row_at, rows_asked_at, rows_at};

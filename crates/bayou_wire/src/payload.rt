@@ -154,7 +154,7 @@ fn reply_of(alloc: Global, kind: u8, bytes: &[u8]) -> Result<Option<(Frame, &[u8
     }
 }
 
-/// What a payload of this kind says, and the bytes behind it.
+/// What a payload of this kind says, and the bytes after it.
 #[tactic(auto, unfolding(crate::specs::Inner::Reading::payload_at))]
 pub(crate) fn payload_of(
     alloc: Global,
@@ -242,7 +242,7 @@ fn plain_reply_of(kind: u8, bytes: &[u8]) -> Option<(PlainFrame, &[u8])>
     }
 }
 
-/// What a payload of this kind says, and the bytes behind it. It takes no memory.
+/// What a payload of this kind says, and the bytes after it. It takes no memory.
 #[tactic(auto, unfolding(crate::specs::Inner::Reading::payload_at))]
 pub(crate) fn plain_payload_of(kind: u8, bytes: &[u8]) -> Option<(PlainFrame, &[u8])>
     ensures { Gives (λ x. (frame_of x.0, x.1.now)) result (payload_at kind bytes.now) }

@@ -85,7 +85,7 @@ fn tagged_head_of(bytes: &[u8]) -> Option<(Option<Tag>, &[u8])>
     }
 }
 
-// What stands before the Write, and the bytes behind it.
+// What stands before the Write, and the bytes after it.
 fn head_of(form: Form, bytes: &[u8]) -> Option<(Option<Tag>, &[u8])>
     ensures { Gives (λ x. (x.0, x.1.now)) result (head_at form bytes.now) }
 {
@@ -172,7 +172,7 @@ fn old_write(alloc: Global, bytes: &[u8]) -> Result<Option<RestingWrite>, AllocE
     }
 }
 
-// The Write that the bytes spell behind the head of this form, all of them, if there is one.
+// The Write that the bytes spell after the head of this form, all of them, if there is one.
 fn write_in(alloc: Global, form: Form, bytes: &[u8]) -> Result<Option<RestingWrite>, AllocError>
     ensures { IfOk result (λ given. MatchOption given ((write : Written) → ¬ (SpellsIn form bytes.now write)) (λ write. SpellsIn form bytes.now write)) }
 {

@@ -18,7 +18,7 @@ use std::marker::Model;
 pub enum FeedFault {
     /// This stands in a frame's place, where no frame stands before it.
     Fault(DecodeFault),
-    /// A fault was told before.
+    /// A fault was reported before.
     Failed,
     /// A growth was refused. The piece counts as not fed.
     OutOfMemory,
@@ -82,7 +82,7 @@ fn keep(
     }
 }
 
-/// A call where no fault was told before, but may stand in what is held back.
+/// A call where no fault was reported before, but may stand in what is held back.
 fn feed_open(
     alloc: Global,
     held: &mut BytesMut,
@@ -123,7 +123,7 @@ impl Frames {
 
     /// Takes the next piece, and gives the frames that are whole now.
     ///
-    /// A fault is told by the call whose piece completes it, where that call has no frame to give, else by the next call,
+    /// A fault is reported by the call whose piece completes it, where that call has no frame to give, else by the next call,
     /// which takes nothing of its piece (an empty one will do). After it every call answers [`FeedFault::Failed`]. Where
     /// memory is lacking nothing changes, and the piece counts as not fed. A frame given takes memory at the size of what it
     /// says.
@@ -140,7 +140,7 @@ impl Frames {
     }
 
     /// The fault that stands in a frame's place in what is held back, if any. The next call of [`Frames::feed`] tells it. Where
-    /// one was told before there is none.
+    /// one was reported before there is none.
     pub fn fault(&self) -> Option<DecodeFault>
         ensures { MatchOption self.now (result ≡ None) (λ held. IsFaultAt held result) }
     {

@@ -1,4 +1,4 @@
-//! Readers: each answers what stands at the front of the bytes and the bytes behind it, or `None` where nothing that
+//! Readers: each answers what stands at the front of the bytes and the bytes after it, or `None` where nothing that
 //! it reads stands there.
 ghost use Rattle.std.specs.Prelude.{◌≡◌, ℕ, ◌≤◌, List, Option, length};
 ghost use Rattle.std.specs.Int.{w16, w32, w64};

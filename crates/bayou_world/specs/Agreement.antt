@@ -31,7 +31,7 @@ pub record StandsFor (told : Told) (session : SessionSets) : Type 0 where
   pub reads : IsVectorOf told.reads session.reads
   pub writes : IsVectorOf told.writes session.writes
 
--- the session of the code is told of the answer
+-- the session of the code learns of the answer
 abbrev pub IsToldOf : What → Told → Told → Type 0
 IsToldOf (whats.Read key vector) old new = (seen : Seen) × (seen.vector ≡ vector) × (new ≡ after_read old seen)
 IsToldOf (whats.Write wid stamp deps) old new = (accepted : Accepted) × (accepted.wid ≡ wid) × (new ≡ after_write old accepted)
@@ -57,7 +57,7 @@ Reaches machine (events.Reopen server) who answered = ⊥
 Reaches machine (events.Restart server) who answered = ⊥
 Reaches machine (events.File session) who answered = ⊥
 
--- over an event the session of the code is told of the answer that reaches it, and else of nothing
+-- over an event the session of the code learns of the answer that reaches it, and else of nothing
 abbrev pub TellsOver : Machine → Event → (who : ℕ) → Told → Told → Type 0
 TellsOver machine event who old new = ((answered : Answered) × Reaches machine event who answered × IsToldOf answered.entry.what old new)
     ⊎ (((answered : Answered) → ¬ Reaches machine event who answered) × (new ≡ old))

@@ -102,7 +102,7 @@ IsImpossible replies.Filed = ⊥
 IsImpossible replies.NoMemory = ⊥
 IsImpossible replies.Skipped = ⊥
 
--- By a Collect of an offer that this server made, so many items went in flight, and behind other events the server holds those of them
+-- By a Collect of an offer that this server made, so many items went in flight, and after other events the server holds those of them
 -- that come before one.
 pub record IsTakenUpTo (old now : Machine) (server offer number at : ℕ) : Type 0 where
   pub database : List Write

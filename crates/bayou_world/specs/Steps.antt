@@ -79,7 +79,7 @@ pub record IsEntry (who place : ℕ) (session : SessionSets) (what : What) (entr
   pub server_is : entry.server.index ≡ place
   pub what_is : entry.what ≡ what
 
--- it begins the place, behind which it may ask this again, if there is such a Write, and the answer goes in flight to it
+-- it begins the place, after which it may ask this again, if there is such a Write, and the answer goes in flight to it
 abbrev pub with_answer : Machine → ℕ → SessionSets → Option Asking → Answered → Machine
 with_answer machine who session asked answered = with_session machine who (record session { begun = session.begun + 1; asked = asked; flight = Some answered })
 
@@ -134,13 +134,13 @@ pub record Makes (limit who : ℕ) (session : SessionSets) (server : ServerSets)
   pub past : made.past ≡ writes server.held
   pub tag : IsTagOf who asking.number made.tag
 
--- what is accepted is told by the Write's name and stamp, and what was held just before
+-- an accepted Write is answered by its name and stamp, and what was held just before
 pub record IsAccepted (made : Made) (accepted : Accepted) : Type 0 where
   pub wid : accepted.wid ≡ made.write.wid
   pub stamp : accepted.stamp ≡ made.write.stamp
   pub deps : accepted.deps ≡ count_of made.past
 
--- the Write is held behind the others, and so there is one database more
+-- the Write is held after the others, and so there is one database more
 abbrev pub with_write : ServerSets → Made → ServerSets
 with_write server made = record server { held = server.held ++ made ∷ []; had = server.had ++ writes (server.held ++ made ∷ []) ∷ [] }
 
@@ -185,7 +185,7 @@ pub record HoldsAsked (old : Machine) (who : ℕ) (asking : Asking) (made : Made
 abbrev pub AnswersAgain : (place : ℕ) → Result Written WriteFault → Reply → Type 0
 AnswersAgain place answer reply = (server : ServerId) × (server.index ≡ place) × (reply ≡ replies.AskedAgain server answer)
 
--- Where the Write is held, nothing is done, and it is told as it was when it was made; else it is asked for, under the tag that it had.
+-- Where the Write is held, nothing is done, and it is answered as it was when it was made; else it is asked for, under the tag that it had.
 pub data AgainStep (old : Machine) (who : ℕ) (reply : Reply) (new : Machine) : Type 0 where
   skipped : CannotRepeat old who → reply ≡ replies.Skipped → new ≡ old → AgainStep old who reply new
   known : (session : SessionSets) (asking : Asking) (entry : Entry) (made : Made) (accepted : Accepted) → MayRepeat old who session asking → HoldsAsked old who asking made
@@ -196,7 +196,7 @@ pub data AgainStep (old : Machine) (who : ℕ) (reply : Reply) (new : Machine) :
 
 -- ---- the answer in flight
 
--- what the session is told: a read adds what it was served from to the read-set, and an accepted Write its name to the write-set, which is
+-- what the session learns: a read adds what it was served from to the read-set, and an accepted Write its name to the write-set, which is
 -- then asked no more
 abbrev pub told : What → Answered → SessionSets → SessionSets
 told (whats.Read key vector) answered session = record session { reads = session.reads ++ names answered.database }

@@ -19,7 +19,7 @@ pub record MayAskAgain (machine : Machine) (who : ℕ) (asking : Asking) : Type 
   pub there : machine.sessions who ≡ Some session
   pub asked : session.asked ≡ Some asking
 
--- The Write was made for this: by the server that was asked, of that program, behind all that the session needs. And no session was told
+-- The Write was made for this: by the server that was asked, of that program, after all that the session needs. And no session learned
 -- of it.
 pub record IsMadeFor (served : List Answered) (session : SessionSets) (asking : Asking) (made : Made) : Type 0 where
   pub server : made.write.wid.origin.index ≡ asking.server

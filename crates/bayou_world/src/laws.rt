@@ -102,7 +102,7 @@ pub fn sets_and_vectors_agree()
         → ItemTestsAgree last }
 {}
 
-/// A session's two vectors, where it is told of just the answers that reach it, stand for its two sets: as it begins, behind each answer
+/// A session's two vectors, where it learns of just the answers that reach it, stand for its two sets: as it begins, after each answer
 /// that it hears, and so along every run. A server holds what the session needs, as sets, exactly where its vector dominates the join that
 /// is the session's need.
 pub fn a_sessions_vectors_stand_for_its_sets()
@@ -121,8 +121,8 @@ pub fn a_sessions_vectors_stand_for_its_sets()
 }
 
 /// Over every run no two Writes have one tag, be they held, in doubt or in flight, and whichever servers made them; a tag is of an asking of
-/// its session, and a Write under the tag of what a session may ask again was made for that, by the server that was asked, behind what the
-/// session needs, and no session was told of it. So the Writes that a server holds have tags of their own, and the one in doubt there has
+/// its session, and a Write under the tag of what a session may ask again was made for that, by the server that was asked, after what the
+/// session needs, and no session learned of it. So the Writes that a server holds have tags of their own, and the one in doubt there has
 /// another.
 pub fn a_tag_is_of_one_write()
     ensures tagged { (count limit capacity : ℕ) (asks : ℕ → Option Asks) (events : List Event) (replies : List Reply) (last : Machine) → Run (first_machine count limit capacity asks) events replies last
@@ -132,7 +132,7 @@ pub fn a_tag_is_of_one_write()
 {}
 
 /// Over every run no item is refused because another Write of its name is held, because its server made it and lost it, or because
-/// its stamp is wrong. No Write that is asked for the first time is told as one that is held already, nor is one, the first time or
+/// its stamp is wrong. No Write that is asked for the first time is answered as one that is held already, nor is one, the first time or
 /// again, refused because another is held under its tag.
 pub fn no_item_is_impossible()
     ensures { (count limit capacity : ℕ) (asks : ℕ → Option Asks) (events : List Event) (replies : List Reply) (last : Machine) → Run (first_machine count limit capacity asks) events replies last
@@ -154,7 +154,7 @@ pub fn the_rules_of_servers_refuse_nothing_impossible<D: Device>()
         → Reopens old.core answer new.core → ReopensJournal D.Device old answer new → ¬ FindsOthers answer }
 {}
 
-/// Over every run a server goes on holding what it held, in its order, with more behind that, and items in flight stay there: so an item
+/// Over every run a server goes on holding what it held, in its order, with more after that, and items in flight stay there: so an item
 /// that is held at some time is held ever after.
 pub fn what_is_held_stays_held()
     ensures held { (old new : Machine) (events : List Event) (replies : List Reply) → Run old events replies new
@@ -173,7 +173,7 @@ pub fn items_in_order_leave_no_gap()
 {}
 
 /// Over every run each vector that a server tells, in its answer to a read or to a program, asked for the first time or again, is a view of
-/// that server. So is what a Write that is held says that its server held, and that with the Write itself. The join of two views of one server
+/// that server. So is what a held Write says that its server held, and this with the Write itself. The join of two views of one server
 /// is a view of it. What a server holds it had, ever after.
 pub fn what_answers_tell_is_a_view()
     ensures reads { (count limit capacity : ℕ) (asks : ℕ → Option Asks) (now : Machine) → Leads (first_machine count limit capacity asks) now
@@ -209,7 +209,7 @@ pub fn what_is_known_comes_before_what_is_made_later()
 
 /// Let there be a view of each server, of whatever time, and two databases, of whatever servers and later times, even of two runs that go on
 /// from there. If each has what every server had made itself by its view, they are the same up to each known Write: the same Writes in the same
-/// order, with the same outcomes, and the same database behind them. What is final in the one is final in the other. A server that holds that
+/// order, with the same outcomes, and the same database after them. What is final in the one is final in the other. A server that holds that
 /// much goes on so.
 pub fn what_is_final_stays_final()
     ensures same { (count limit capacity : ℕ) (asks : ℕ → Option Asks) (told : Machine) → Leads (first_machine count limit capacity asks) told → (views : ℕ → List ℕ) → AreViews told views
@@ -225,7 +225,7 @@ pub fn what_is_final_stays_final()
 
 /// Each database has a longest beginning, in stamp order, of Writes that are known. Where the database has what every server had made itself by
 /// its view, each of them is final; each other such database, of whatever server and later time, has the same longest one. And each server, at
-/// whatever later time and whatever it lacks, begins with these Writes: they have the same outcomes there, and the same database behind them.
+/// whatever later time and whatever it lacks, begins with these Writes: they have the same outcomes there, and the same database after them.
 pub fn a_known_beginning_is_final()
     ensures longest { (count : ℕ) (views : ℕ → List ℕ) (database : List Write) → (first : List Write) × IsKnownBeginning count views database first }
     ensures each { (count : ℕ) (views : ℕ → List ℕ) (database first : List Write) → HasOwn count views database → IsKnownBeginning count views database first → All (IsFinal count views database) first }

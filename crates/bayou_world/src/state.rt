@@ -61,7 +61,7 @@ impl State {
         Reply::Read(session.read(server, key))
     }
 
-    /// The session asks the server to make a Write of the program, a copy of which is made first.
+    /// The session asks the server to make a Write of the program, which is copied first.
     pub fn write(
         &mut self,
         alloc: Global,
@@ -210,7 +210,7 @@ impl State {
         })
     }
 
-    /// The server is given the item, a copy of which is made first.
+    /// The server is given the item, which is copied first.
     pub fn take(&mut self, alloc: Global, place: ServerId, item: u32) -> Result<Reply, AllocError>
         ensures follows { IfOk result (λ reply. Follows self.old (λ machine next. TakeStep machine place.index item reply next) self.new) }
         ensures spent { IfOk result (λ reply. AreSpent place.index (tells_fault reply) (tells_fuse reply) self.old.servers.items self.new.servers.items) }

@@ -76,7 +76,7 @@ fn accepted_in(answer: &Result<Written, WriteFault>) -> Option<Accepted>
     }
 }
 
-/// It is told what it read.
+/// It learns what it read.
 fn tell_read(session: &mut Session, what: &What)
     ensures { session.new ≡ after_read what.now session.old }
 {
@@ -122,7 +122,7 @@ impl WorldSession {
         }
     }
 
-    /// It is told what was accepted, which it asks no more.
+    /// It learns what was accepted, which it asks no more.
     fn tell_accepted(&mut self, accepted: &Option<Accepted>)
         ensures { self.new ≡ record self.old { session = after_accepted accepted.now self.old.session; asked = asked_after accepted.now self.old.asked } }
     {
@@ -195,7 +195,7 @@ impl WorldSession {
         answer
     }
 
-    /// It asks the server to make a Write of the program, at a place that it begins, behind which it may ask again. The tag of what it asks
+    /// It asks the server to make a Write of the program, at a place that it begins, after which it may ask again. The tag of what it asks
     /// is that of the place. A copy of the program is made first.
     pub fn write(
         &mut self,

@@ -1,4 +1,4 @@
-//! Writes that are asked again: each is made once, and told once, whatever became of the first answer.
+//! Writes that are asked again: each is made once, and reported once, whatever became of the first answer.
 use crate::failures::is_clean;
 use crate::fixtures::must_be_so;
 use crate::scripts::{
@@ -37,7 +37,7 @@ static AGAIN: [Script; 4] = [
         dumps: [&[(0, 1)], &[]],
         totals: (0, 1, 2),
     },
-    // It was accepted, and the answer is lost twice. What came behind it changes nothing.
+    // It was accepted, and the answer is lost twice. What came after it changes nothing.
     Script {
         limit: 100,
         asks: &[ALL, NOTHING],
@@ -131,7 +131,7 @@ static SKIPPED: [Script; 2] = [
         dumps: [&[(0, 1)], &[]],
         totals: (0, 0, 0),
     },
-    // Behind a read that was lost it can't be asked again, nor at a server that is stopped.
+    // After a read that was lost it can't be asked again, nor at a server that is stopped.
     Script {
         limit: 100,
         asks: &[NOTHING],

@@ -145,7 +145,7 @@ fn must_have(rt: &impl Abort, faults: u32, found: Option<u32>, (server, call, ke
     );
 }
 
-/// All is clean where that call of the server fails, whatever it keeps of its piece. So many faults are told.
+/// All is clean where that call of the server fails, whatever it keeps of its piece. So many faults are reported.
 fn must_be_clean_at(rt: &impl Abort, alloc: Global, server: u8, call: u32, faults: u32) {
     for kept in 0..LONGEST {
         let failing = (server, call, kept);
@@ -153,7 +153,7 @@ fn must_be_clean_at(rt: &impl Abort, alloc: Global, server: u8, call: u32, fault
     }
 }
 
-/// Each call of the server's may fail, and none behind them does.
+/// Each call of the server's may fail, and none after them does.
 fn must_be_clean(rt: &impl Abort, alloc: Global, server: u8) {
     for call in 1..CALLS + 3 {
         let faults = if call <= CALLS { 1 } else { 0 };

@@ -200,7 +200,7 @@ impl List {
         }
     }
 
-    /// A run of so many servers: views are told, also behind a round of pulls, and then it goes on.
+    /// A run of so many servers: views are reported, also after a round of pulls, and then it goes on.
     fn fill(&mut self, rt: &impl Abort, dice: &mut Dice, count: u8) {
         let many = dice.below(14);
         self.grow_by(rt, dice, count, true, many);
@@ -415,7 +415,7 @@ struct Found {
     lines: Option<Vec<Line>>,
     /// Whether another that has so much lacks the last final Write, or has a later one that is known.
     lacks: bool,
-    /// Whether another has that, and behind other Writes, or with another outcome of one.
+    /// Whether another has that, and after other Writes, or with another outcome of one.
     moves: bool,
     /// Whether another has later Writes too, and some are final.
     goes_on: bool,
@@ -578,7 +578,7 @@ static FORGOTTEN: [Move; 14] = [
     Move::Take(1, 2),
 ];
 
-/// Whether what is final stays so, where the view that server 0 told is told with so many Writes more of server 1.
+/// Whether what is final stays so, where the view that server 0 told has so many Writes more of server 1.
 fn stays_with(rt: &impl Abort, alloc: Global, more: u32) -> bool {
     let mut list = List::new(alloc);
     for next in &FORGOTTEN {

@@ -92,7 +92,7 @@ impl World {
         }
     }
 
-    /// The session's next operation at the server is told of.
+    /// An entry tells of the session's next operation at the server.
     fn tell(&mut self, rt: &impl Abort, dice: &mut Dice, server: u8, what: What) {
         let session = dice.below(4) as u8;
         let (place, asks) = self.places[usize::from(session)];

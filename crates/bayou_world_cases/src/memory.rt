@@ -156,7 +156,7 @@ fn is_reply(
     }
 }
 
-/// Whether the replies are the twin's, but that at this event one is told and another said there.
+/// Whether the replies are the twin's, but that at this event one is given and another said there.
 fn are_alike(replies: &[Reply], twin: &[Reply], place: (usize, usize), swap: (Said, Said)) -> bool {
     let mut are_so = replies.len().saturating_add(place.1) == twin.len();
     for (number, reply) in replies.iter().enumerate() {

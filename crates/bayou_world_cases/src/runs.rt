@@ -18,7 +18,7 @@ const LISTS: u32 = 400;
 /// How many events a list has, but for some more at its end.
 const EVENTS: usize = 300;
 
-/// In so many rounds a list is made. Behind each but the last it is run, so that the next events can name what went in flight.
+/// In so many rounds a list is made. After each but the last it is run, so that the next events can name what went in flight.
 const ROUNDS: usize = 3;
 
 /// How many Writes each server may hold, by turns.
@@ -316,7 +316,7 @@ fn are_paid(events: &[Event], replies: &[Reply]) -> bool {
     true
 }
 
-/// The server's fuses behind a reply. Whether there was one for a fault.
+/// The server's fuses after a reply. Whether there was one for a fault.
 fn pay(fuses: &mut [u32; 4], server: Option<ServerId>, reply: Option<&Reply>) -> bool {
     let (Some(server), Some(reply)) = (server, reply) else {
         return true;

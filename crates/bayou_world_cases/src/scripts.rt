@@ -76,7 +76,7 @@ pub enum Said {
 /// The answer to a Write that is asked again.
 #[derive(Clone, Copy, PartialEq, Eq)]
 pub enum Repeated {
-    /// The Write of this origin and seq is held, behind so many.
+    /// The Write of this origin and seq is held, after so many.
     Known((u8, u32), Counts),
     /// It is made now.
     Made((u8, u32), Counts),
@@ -132,7 +132,7 @@ pub const ALL: Asks = Asks {
     mw: true,
 };
 
-/// A session that asks for Read Your Writes, whose Write it is told of, or isn't.
+/// A session that asks for Read Your Writes, and learns of its Write, or doesn't.
 static OF_ONE_WRITE: [Script; 2] = [
     Script {
         limit: 100,

@@ -164,7 +164,7 @@ fn is_true(dump: &[RestingWrite], earlier: &[Entry], entry: &Entry) -> bool {
     }
 }
 
-/// Whether it may stand behind those of its session.
+/// Whether it may stand after those of its session.
 fn follows(earlier: &[Entry], entry: &Entry) -> bool {
     for other in earlier {
         let is_behind = other.place < entry.place && other.asks == entry.asks;
@@ -233,7 +233,7 @@ fn only(dump: &[RestingWrite], wid: Wid) -> &[RestingWrite] {
 }
 
 /// Whether some front of the dump has the later Write, and lacks the earlier one, or has it and it isn't before. What the least
-/// front that has the later one lacks, or has in another order, is told; a longer one lacks no more.
+/// front that has the later one lacks, or has in another order, is reported; a longer one lacks no more.
 fn fails_to_precede(dump: &[RestingWrite], earlier: &RestingWrite, later: &RestingWrite) -> bool {
     let is_before = earlier.stamp().is_before(later.stamp());
     for (at, write) in dump.iter().enumerate() {

@@ -11,7 +11,7 @@ abbrev pub Spends : Option Entry → (before after : Shared) → Type 0
 Spends None before after = after ≡ with_slip_spent before
 Spends (Some entry) before after = after ≡ with_filed before entry
 
--- what a session is told whose operation had a place in the book
+-- what a session hears whose operation had a place in the book
 abbrev pub as_told : {A : Type 0} → Result A LinkFault → Result A ClientFault
 as_told (Ok answer) = Ok answer
 as_told (Err fault) = Err (Link fault)

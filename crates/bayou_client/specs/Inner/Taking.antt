@@ -22,7 +22,7 @@ abbrev pub TakesItems : {T : Type 0} → Bool → (read behind : List ℕ) → L
 TakesItems many read behind writes (Ok done) = Begins many read writes behind
 TakesItems many read behind writes (Err fault) = Ends many read fault
 
--- after frames, with this behind them: Items alone came, or the last frame too
+-- after frames, with this after them: Items alone came, or the last frame too
 abbrev pub TakesFrames : Bool → (read behind : List ℕ) → List Write → Result (Option Frame) ChannelFault → Type 0
 TakesFrames many read behind writes (Ok None) = Begins many read writes behind
 TakesFrames many read behind writes (Ok (Some last)) = Begins many read writes (spelling last ++ behind) × IsLast many last

@@ -18,14 +18,6 @@ pub returns-clause-audit : goal.returns-clause-audit
 unfolding clap_on_literals
 returns-clause-audit c = record { good = refl; entered = refl }
 
-pub returns-clause-explained : goal.returns-clause-explained
-unfolding clap_on_literals
-returns-clause-explained c = record { good = refl; entered = refl }
-
-pub returns-clause-explained_turned : goal.returns-clause-explained_turned
-unfolding clap_on_literals
-returns-clause-explained_turned c = record { good = refl; entered = refl }
-
 pub returns-clause-audit_dash : goal.returns-clause-audit_dash
 unfolding clap_on_literals
 returns-clause-audit_dash c = record { good = refl; entered = refl }

@@ -45,7 +45,7 @@ one_or_two (x ∷ xs) (y ∷ ys) =
       | false ↦ λ e. inr (λ same. eqb-false x y e (ap (λ list. get_or list 0 0) same))
     ] refl
 
--- where the same is told of two digests, what stood before them and the Writes are the same, or there is a collision
+-- where the same is sent of two digests, what stood before them and the Writes are the same, or there is a collision
 meets : (b c x y : List ℕ) → length b ≡ DIGEST_BYTES → length c ≡ DIGEST_BYTES → short (next_digest b x) ≡ short (next_digest c y) → ((b ≡ c) × (x ≡ y)) ⊎ Collision
 meets b c x y of_b of_c meet =
     elim (one_or_two (b ++ x) (c ++ y)) [

@@ -1,4 +1,4 @@
--- What stands at the front of what should be a server's journal, and what an opening adds behind its chain: this project's own.
+-- What stands at the front of what should be a server's journal, and what an opening adds after its chain: this project's own.
 use Rattle.std.specs.Prelude.{◌==◌, ℕ, zero, suc, List, [], if◌then◌else◌}
 use Rattle.bayou_device.specs.Device.{BeginsWith}
 use Rattle.bayou_journal.specs.Chain.{entry, header, link}
@@ -19,10 +19,10 @@ abbrev pub missing_header : (server end : ℕ) → List ℕ
 missing_header server zero = header NEWEST_VERSION server
 missing_header server (suc end) = []
 
--- What has to be added behind the cut, where the chain has this version and this digest there.
+-- What has to be added after the cut, where the chain has this version and this digest there.
 abbrev pub missing : (server version : ℕ) → (last : List ℕ) → (end : ℕ) → List ℕ
 missing server version last end = if version == NEWEST_VERSION then missing_header server end else entry last newest_mark
 
--- the digest that the next entry stands behind then
+-- the digest that the next entry stands after then
 abbrev pub raised_link : (version : ℕ) → (last : List ℕ) → List ℕ
 raised_link version last = if version == NEWEST_VERSION then last else link last newest_mark

@@ -7,7 +7,7 @@ use Rattle.bayou_journal.specs.Versions.{Records, bodies_in, end_of, told, versi
 use Rattle.bayou_journal.specs.declared.opened.Place.{Place}
 
 -- The bytes are the server's journal with some entries, and a rest: the bodies that these tell lie at the places, and the version
--- and the digest are those behind the entries.
+-- and the digest are those after the entries.
 pub record IsRead (version server : ℕ) (bytes : List ℕ) (places : List Place) (now : ℕ) (last rest : List ℕ) : Type 0 where
   pub bodies : List (List ℕ)
   pub split : bytes ≡ journal version server bodies ++ rest

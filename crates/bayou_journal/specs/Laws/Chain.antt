@@ -6,14 +6,14 @@ use Rattle.std.proofs.lemmas.List.{append_cancel_left, append-nil}
 use Rattle.std.proofs.lemmas.Nat.{from_be_bytes-to_be_bytes_2}
 use Rattle.bayou_journal.specs.Chain.{IsBody, AreBodies, NoEntry, IsLongestChain, header, link, entry, entries, last_link, first_link, chain_end, journal}
 
--- one more body: its entry stands behind the others
+-- one more body: its entry stands after the others
 pub entries-push : (before : List ℕ) (bodies : List (List ℕ)) (body : List ℕ) → entries before (bodies ++ body ∷ []) ≡ entries before bodies ++ entry (last_link before bodies) body
 entries-push before [] body = append-nil (entry before body)
 entries-push before (first ∷ bodies) body =
     ap (λ (l : List ℕ). entry before first ++ l) (entries-push (link before first) bodies body)
     ∙ sym (append_assoc (entry before first) (entries (link before first) bodies) (entry (last_link (link before first) bodies) body))
 
--- and the digest that the next one stands behind is its own
+-- and the digest that the next one stands after is its own
 pub last_link-push : (before : List ℕ) (bodies : List (List ℕ)) (body : List ℕ) → last_link before (bodies ++ body ∷ []) ≡ link (last_link before bodies) body
 last_link-push before [] body = refl
 last_link-push before (first ∷ bodies) body = last_link-push (link before first) bodies body
@@ -50,7 +50,7 @@ pub AreBodies-append : (bodies more : List (List ℕ)) → AreBodies bodies → 
 AreBodies-append [] more are others = others
 AreBodies-append (first ∷ bodies) more are others = (are.0, AreBodies-append bodies more are.1 others)
 
--- two fronts of one length, and what stands behind each
+-- two fronts of one length, and what stands after each
 pub record Same (xs ys ts us : List ℕ) : Type 0 where
   pub front : xs ≡ ys
   pub rest : ts ≡ us

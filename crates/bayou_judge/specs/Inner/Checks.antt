@@ -9,7 +9,7 @@ use Rattle.bayou_judge.specs.Evidence.{AreGenuine, AreGood, IsFirstBad, IsFirstF
 use Rattle.bayou_judge.specs.History.{dump_of}
 use Rattle.bayou_judge.specs.Inner.Index.{AreIndexed, IsIndexOf, Tables}
 
--- each dump has its tables where all are good; else the least place that isn't is told
+-- each dump has its tables where all are good; else the least place that isn't is named
 abbrev pub IndexAnswer : ℕ → List (List Write) → Result (Vec Tables) BadEvidence → Type 0
 IndexAnswer count dumps (Ok indexes) = AreGood count dumps × AreIndexed dumps indexes.items
 IndexAnswer count dumps (Err (BadDump server at)) = IsFirstBad count dumps server.index at
@@ -25,7 +25,7 @@ pub record AreRead (count : ℕ) (dumps : List (List Write)) (servers : ℕ) (in
   pub good : (other place : ℕ) → other < servers → IsGoodAt count dumps other place
   pub each : (other : ℕ) (tables : Tables) → slice_get indexes other ≡ Some tables → IsIndexOf (dump_of dumps other) tables
 
--- the server's dump has its tables where each Write of it is good; else the least place that isn't is told
+-- the server's dump has its tables where each Write of it is good; else the least place that isn't is named
 abbrev pub DumpAnswer : ℕ → List (List Write) → ℕ → Result Tables BadEvidence → Type 0
 DumpAnswer count dumps server (Ok tables) = ((place : ℕ) → IsGoodAt count dumps server place) × IsIndexOf (dump_of dumps server) tables
 DumpAnswer count dumps server (Err (BadDump bad at)) = IsFirstBad count dumps bad.index at

@@ -5,11 +5,11 @@ use Rattle.bayou_base.specs.declared.wid.Wid.{Wid}
 use Rattle.bayou_judge.specs.declared.entries.Latest.{Latest}
 use Rattle.bayou_judge.specs.Evidence.{TellsOf}
 
--- whether the server's Write of this sequence number was told of
+-- whether the rows have the server's Write of this sequence number
 abbrev pub told_in : List (List Bool) → ℕ → ℕ → Bool
 told_in rows server seq = slice_index_or (slice_index_or rows (seq - 1) []) server false
 
--- just the Writes of which one of the entries tells were told of
+-- the rows have just the Writes of which one of the entries tells
 abbrev pub AreTold : List Entry → List (List Bool) → Type 0
 AreTold entries rows = (wid : Wid) → (told_in rows wid.origin.index wid.seq ≡ true) ↔ Any (λ entry. TellsOf wid entry.what) entries
 

@@ -1,4 +1,4 @@
--- Vectors in place of sets: what a session was told of, and what an operation demands of it. Inner words.
+-- Vectors in place of sets: what a session heard of, and what an operation demands of it. Inner words.
 use Rattle.std.specs.Prelude.{◌≡◌, ℕ, ◌+◌, ◌<◌, ◌≤◌, ◌↔◌, ◌⊎◌, Bool, true, false, List, Option, Some, None, Contains, All, ◌∷◌, [], ◌≢◌, length, slice_get, take}
 use Rattle.bayou_base.specs.Order.{is_before}
 use Rattle.bayou_base.specs.Vector.{Covers}
@@ -156,11 +156,11 @@ pub record IsSecond (guarantee : Guarantee) (session : ℕ) (entry : Entry) : Ty
   pub session_is : entry.session.index ≡ session
   pub kind : is_second guarantee entry.what ≡ true
 
--- the later operation lacks nothing of which one of these told its session
+-- the later operation lacks nothing that one of these told its session of
 abbrev pub IsKept : List (List Write) → Guarantee → ℕ → List Entry → Entry → Type 0
 IsKept dumps guarantee session earlier second = All (λ first. IsFirst guarantee session first → (server : ℕ) (wid : Wid) → ¬ Fails dumps first second server wid) earlier
 
--- the need has all of which those of the entries told their session
+-- the need has all that those of the entries told their session of
 abbrev pub IsNeedOf : List (List Write) → Guarantee → ℕ → List Entry → Need → Type 0
 IsNeedOf dumps guarantee session entries need = All (λ first. IsFirst guarantee session first
     → (write : Write) → Tells (dump_of dumps first.server.index) first.what write → IsNeeded need write) entries

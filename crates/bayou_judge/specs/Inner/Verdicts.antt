@@ -1,4 +1,4 @@
--- Surveys session by session, and which breach of one is told: inner words.
+-- Surveys session by session, and which breach of one is reported: inner words.
 use Rattle.std.specs.Prelude.{◌≡◌, ℕ, ◌<◌, true, List, Option, Some, None, All, AllPairs, Any, slice_get}
 use Rattle.bayou_base.specs.declared.entry.Entry.{Entry}
 use Rattle.bayou_judge.specs.declared.breach.Breach.{Breach}

@@ -33,7 +33,7 @@ counted-comm counts a b =
           ∙ sym (ap (λ n. set (counted counts b) i (n + 1)) (get_or-set_other counts j i (get_or counts j 0 + 1) 0 differ))
     ]
 
--- the counts of a list with one more Write behind it
+-- the counts of a list with one more Write after it
 pub count_of-push : (writes : List Write) (write : Write) → count_of (writes ++ write ∷ []) ≡ counted (count_of writes) write.wid
 count_of-push [] write = refl
 count_of-push (held ∷ writes) write =
@@ -84,7 +84,7 @@ count_of-most (write ∷ writes) server =
       | inr more ↦ omega (arith, more.1, count_of-most writes server)
     ]
 
--- the greatest clock of a list with one more Write behind it
+-- the greatest clock of a list with one more Write after it
 pub greatest_clock-push : (writes : List Write) (write : Write) → greatest_clock (writes ++ write ∷ []) ≡ max (greatest_clock writes) write.stamp.clock
 greatest_clock-push [] write = omega arith
 greatest_clock-push (first ∷ writes) write = omega (arith, greatest_clock-push writes write)
@@ -129,7 +129,7 @@ covered_by-all counts (write ∷ writes) all =
     let rest : covered_by counts writes ≡ writes = covered_by-all counts writes (λ k d within. all (suc k) d (omega arith)) in
     rw covered (ap (λ list. write ∷ list) rest)
 
--- a Write of a list with one more behind it is that one, or one of the list
+-- a Write of a list with one more after it is that one, or one of the list
 before_or_last : (writes before after : List Write) (last write : Write) → writes ++ last ∷ [] ≡ before ++ write ∷ after
     → ((writes ≡ before) × (last ≡ write)) ⊎ ((rest : List Write) × (writes ≡ before ++ write ∷ rest))
 before_or_last [] [] after last write same = inl (refl, cc)

@@ -9,7 +9,7 @@ use Rattle.bayou_log.specs.Db.{Slots}
 use Rattle.bayou_log.specs.Inner.Counting.{start_at}
 use Rattle.bayou_log.specs.Rows.{Row}
 
--- from the first key on that begins with the prefix, or behind this one where that is later
+-- from the first key on that begins with the prefix, or after this one where that is later
 abbrev pub start_behind : List ℕ → Option (List ℕ) → Bound (List ℕ)
 start_behind prefix None = start_at prefix
 start_behind prefix (Some last) = if is_lt (slice_cmp nat_cmp last prefix) then start_at prefix else Excluded last

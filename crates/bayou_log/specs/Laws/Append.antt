@@ -1,4 +1,4 @@
--- A list of Writes behind another: its outcomes are listed behind those of the other, on the database that the other leaves.
+-- A list of Writes after another: its outcomes are listed after those of the other, on the database that the other leaves.
 use Rattle.std.proofs.Common.{◌≡◌, List, [], ◌∷◌, ◌++◌, ap, refl}
 use Rattle.bayou_lang.specs.declared.write.Write.{Write}
 use Rattle.bayou_lang.specs.Database.{Database}

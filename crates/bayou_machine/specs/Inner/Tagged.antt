@@ -37,6 +37,7 @@ pub record IsReplied (who : SessionId) (tag : Tag) (drops : Bool) (program : Pro
   pub writes : Writes old.core tag (write_need seat.told) program result new.core
   pub stores : StoresWrite memory_device old result new
   pub sound : IsSoundServer old.core × IsSoundServer new.core
+  pub others : new.taking ≡ old.taking
   pub safe : KeepsChains (kept_bytes old.device) (kept_bytes new.device)
   pub calls : LeadsTo 2 old.device new.device
   pub answered : answer ≡ reply_of drops who (write_answer who result)

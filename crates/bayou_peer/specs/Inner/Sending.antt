@@ -19,7 +19,7 @@ abbrev pub SendsItems : Option (List Write) → List ℕ → (before after : Opt
 SendsItems list counts before after result =
     (writes : List Write) × IfSome list (λ held. writes ≡ lacking_of counts held) × Sends item_bytes writes before after result
 
--- Items of so many Writes, the first that these counts lack, were sent so far; what is told now lacks the others.
+-- Items of so many Writes, the first that these counts lack, were sent so far; what is reported now lacks the others.
 abbrev pub HasSent : Option (List Write) → (counts told : List ℕ) → (before after : Option (List ℕ)) → ℕ → Type 0
 HasSent list counts told before after number =
     (writes : List Write) × IfSome list (λ held. lacking_of counts held ≡ writes ++ lacking_of told held)

@@ -13,12 +13,12 @@ use Rattle.bayou_wire.specs.declared.frame.Frame.{Frame}
 use Rattle.bayou_wire.specs.declared.frame.Frame.TheVariants.{Item}
 use Rattle.bayou_wire.specs.Stream.{IsPartial}
 
--- what stands behind the Items: nothing, or first a frame that is no Item
+-- what stands after the Items: nothing, or first a frame that is no Item
 abbrev pub FollowsItems : Option Frame → List Frame → Type 0
 FollowsItems None rest = rest ≡ []
 FollowsItems (Some next) rest = (behind : List Frame) × (rest ≡ next ∷ behind) × ((write : Write) → next ≢ Item write)
 
--- the Writes of the Items that stand in front of the frames, and the frame behind them, if one came
+-- the Writes of the Items that stand in front of the frames, and the frame after them, if one came
 pub record IsFrontOf (frames : List Frame) (writes : List Write) (next : Option Frame) : Type 0 where
   pub rest : List Frame
   pub split : frames ≡ items_of writes ++ rest
@@ -29,7 +29,7 @@ abbrev pub IsNoItem : Option Frame → Type 0
 IsNoItem None = Unit {0}
 IsNoItem (Some frame) = (write : Write) → frame ≢ Item write
 
--- What bytes behind those held back gave: some frames, of which these are the Writes of the Items in front and the frame behind them.
+-- What bytes after those held back gave: some frames, of which these are the Writes of the Items in front and the frame after them.
 pub record Gathers (held bytes : List ℕ) (writes : List Write) (next : Option Frame) (is_bad : Bool) (now : Option (List ℕ)) : Type 0 where
   pub came : List Frame
   pub comes : Comes held bytes came is_bad now

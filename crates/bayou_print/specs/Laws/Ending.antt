@@ -19,7 +19,7 @@ ends_well {A} P answered (Ok told) a b c none printed took same =
 abbrev fails : (A : Type 0) → RunFault → Result A RunFault
 fails A fault = Err fault
 
--- a fault that one fault is told as, or that of the output
+-- a fault that one fault is reported as, or that of the output
 fault_is : {A : Type 0} (why fault : RunFault) → IsRunFault why → (fails A why ≡ Err fault) ⊎ (fault ≡ Output) → IsRunFault fault
 fault_is {A} why fault is (inl same) = subst of_result same is
   where

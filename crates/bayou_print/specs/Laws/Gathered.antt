@@ -1,4 +1,4 @@
--- Lines that wait, one text behind another.
+-- Lines that wait, one text after another.
 use Rattle.std.proofs.Common.{◌≡◌, ℕ, List, [], ◌++◌, ◌∙◌, refl, ap, sym, subst, append_assoc}
 use Rattle.std.proofs.lemmas.List.{append-nil}
 use Rattle.bayou_streams.specs.Account.{Account, TakesBytes, TakesFront}
@@ -20,7 +20,7 @@ Gathers-trans a b c first second missing one two = record {
   took = TakesBytes-trans _ _ _ _ _ one.took two.took;
 }
 
--- what stands behind the text is missing too
+-- what stands after the text is missing too
 pub Gathers-less : (a b : Stage) (text rest missing : List ℕ) → Gathers a b text missing → Gathers a b (text ++ rest) (missing ++ rest)
 Gathers-less a b text rest missing some = record {
   taken = some.taken;
@@ -29,7 +29,7 @@ Gathers-less a b text rest missing some = record {
   took = some.took;
 }
 
--- a line is put behind what waits, but for what is missing of it
+-- a line is put after what waits, but for what is missing of it
 pub put : (a mid b : Stage) (line missing : List ℕ) → Gathers a mid [] [] → b.output ≡ mid.output → mid.waiting ++ line ≡ b.waiting ++ missing → Gathers a b line missing
 put a mid b line missing room same is = record {
   taken = room.taken;

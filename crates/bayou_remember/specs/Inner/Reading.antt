@@ -28,7 +28,7 @@ pub record IsKeptBy (head : Head) (all : List Frame) (kept : Asking) : Type 0 wh
   pub asked : AreAskedFrames kept.session kept.asked asking
   pub frames_are : all ≡ frames_of kept asking
 
--- why what the bodies keep can't be told
+-- why what the bodies keep can't be read
 abbrev pub CantTell : List Body → RememberFault → Type 0
 CantTell bodies (Journal fault) = ⊥
 CantTell bodies (NotKept at) = KeepsNothing bodies at

@@ -11,7 +11,7 @@ earlier_of None other = other
 earlier_of (Some first) None = Some first
 earlier_of (Some first) (Some second) = if is_before second.stamp first.stamp then Some second else Some first
 
--- the Write is counted, and not yet told of
+-- the first counts cover the Write, and the second don't yet
 abbrev pub IsDue : (counts told : List ℕ) → Write → Type 0
 IsDue counts told write =
     (slice_index told write.wid.origin.index < write.wid.seq) × (write.wid.seq ≤ slice_index counts write.wid.origin.index)

@@ -1,5 +1,5 @@
 -- How a script's servers and sessions stand beside those of the machine: callers don't see it.
-use Rattle.std.specs.Prelude.{◌≡◌, ℕ, ◌+◌, ◌*◌, ◌<◌, ◌≤◌, true, false, List, [], ◌++◌, None, Some, Result, length, max}
+use Rattle.std.specs.Prelude.{◌≡◌, ◌⊎◌, ℕ, ◌+◌, ◌*◌, ◌<◌, ◌≤◌, Bool, true, false, List, [], ◌++◌, None, Some, Result, Ok, length, max}
 use Rattle.std.specs.List.{slice_get}
 use Rattle.std.specs.Option.{option_map}
 use Rattle.bayou_base.specs.declared.answer.Seen.{Seen}
@@ -7,15 +7,27 @@ use Rattle.bayou_base.specs.declared.limits.TheConstants.{MAX_NUMBER, MAX_WRITES
 use Rattle.bayou_base.specs.declared.server.ServerId.{ServerId}
 use Rattle.bayou_base.specs.declared.session.SessionId.{SessionId}
 use Rattle.bayou_base.specs.declared.tag.Tag.{Tag}
+use Rattle.bayou_device.specs.Memory.{Memory, kept_bytes}
+use Rattle.bayou_device.specs.MemoryDevice.{memory_device}
+use Rattle.bayou_journal.specs.Opening.{KeepsChains}
 use Rattle.bayou_lang.specs.declared.program.Program.{Program}
 use Rattle.bayou_lang.specs.Writes.{count_of, lacking_of}
+use Rattle.bayou_lang.specs.declared.write.Write.{Write}
+use Rattle.bayou_server.specs.declared.answer.Reopened.{Reopened}
+use Rattle.bayou_server.specs.declared.answer.Stopped.{Stopped as StoppedServer}
 use Rattle.bayou_server.specs.declared.answer.Took.{Took}
 use Rattle.bayou_server.specs.declared.answer.Written.{Written}
 use Rattle.bayou_server.specs.declared.fault.Behind.{Behind}
+use Rattle.bayou_server.specs.declared.fault.ReopenFault.{ReopenFault}
+use Rattle.bayou_server.specs.declared.fault.StartFault.{StartFault}
 use Rattle.bayou_server.specs.declared.fault.TakeFault.{TakeFault}
 use Rattle.bayou_server.specs.declared.fault.WriteFault.{WriteFault}
+use Rattle.bayou_server.specs.Honest.{AreHonest, IsHonestAnswer, IsHonestServer, IsHonestServerDevice}
 use Rattle.bayou_server.specs.Reads.{Reads}
-use Rattle.bayou_server.specs.Server.{Core, IsSoundServer}
+use Rattle.bayou_server.specs.Reopens.{Reopens}
+use Rattle.bayou_server.specs.Server.{Core, IsSoundServer, holds_of, record_in_doubt, records_of, with_device}
+use Rattle.bayou_server.specs.Starts.{FailsToStart, Starts, StartsOn}
+use Rattle.bayou_server.specs.Stored.{ReopensJournal, StoresTaken, StoresWrite}
 use Rattle.bayou_server.specs.Takes.{Takes}
 use Rattle.bayou_server.specs.Writes.{Writes}
 use Rattle.bayou_session.specs.declared.session.TheConstants.{FIRST_RUN}
@@ -24,7 +36,7 @@ use Rattle.bayou_text.specs.Said.{Said}
 use Rattle.bayou_script.specs.Capacity.{capacity_for, operations}
 use Rattle.bayou_script.specs.Script.{Plan, is_open}
 use Rattle.bayou_machine.specs.declared.script_server.ScriptServer.{ScriptServer}
-use Rattle.bayou_machine.specs.declared.script_server.ScriptServer.TheVariants.{Running}
+use Rattle.bayou_machine.specs.declared.script_server.ScriptServer.TheVariants.{Running, Stopped}
 use Rattle.bayou_machine.specs.Run.{ScriptState}
 use Rattle.bayou_machine.specs.ScriptServer.{Serving}
 use Rattle.bayou_machine.specs.Seats.{Asked, Seat}
@@ -33,12 +45,13 @@ use Rattle.bayou_world.specs.declared.event.Event.{Event}
 use Rattle.bayou_world.specs.declared.event.Event.TheVariants as events
 use Rattle.bayou_world.specs.declared.reply.Reply.{Reply}
 use Rattle.bayou_world.specs.declared.reply.Reply.TheVariants as replies
-use Rattle.bayou_world.specs.Agreement.{IsToldOf, StandsFor}
+use Rattle.bayou_world.specs.Agreement.{IsToldOf, NeedsAgree, StandsFor}
 use Rattle.bayou_world.specs.Machine.{Answered, Asking, Machine, Made, Offered, SessionSets, writes}
 use Rattle.bayou_world.specs.Never.{core_at}
-use Rattle.bayou_world.specs.Rows.{IsAnsweredAt, told_of_program, told_of_read}
+use Rattle.bayou_world.specs.Rows.{IsAnsweredAt, IsOnlyServer, told_of_program, told_of_read}
 use Rattle.bayou_world.specs.Runs.{Run, first_machine, new_session}
 use Rattle.bayou_world.specs.Steps.{IsGiven, IsRunning, IsTagOf, MayBegin, Step, TakeStep, first_asking, heard}
+use Rattle.bayou_runs.specs.Lines.{has_lost}
 use Rattle.bayou_runs.specs.Runs.{asks_in}
 
 -- the machine as a script's run begins, before the first offer
@@ -67,13 +80,35 @@ pub record IsSeatOf (who : ℕ) (seat : Seat) (session : SessionSets) : Type 0 w
   pub idle : session.flight ≡ None
   pub filed : session.waiting ≡ []
 
+-- what is so of a server in each call: it is sound, has one Write in doubt at the most, and is over an honest device, unless that lost bytes
+pub record IsSafe (lost : Bool) (server : Serving) : Type 0 where
+  pub sound : IsSoundServer server.core
+  pub alone : server.taking ≡ []
+  pub honest : lost ≡ false → IsHonestServer memory_device server
+
 -- the script's server at this place, and the machine's: both run, and hold the same
-pub record IsRunningAt (machine : Machine) (place : ℕ) (replica : ScriptServer) : Type 0 where
+pub record IsRunningAt (lost : Bool) (machine : Machine) (place : ℕ) (replica : ScriptServer) : Type 0 where
   pub server : Serving
   pub is : replica ≡ Running server
   pub core_is : server.core ≡ core_at machine place
-  pub sound : IsSoundServer server.core
+  pub safe : IsSafe lost server
   pub runs : (machine.servers place).stopped ≡ false
+
+-- the device is honest for what the machine's server holds
+abbrev pub HasHonestDevice : Machine → (place : ℕ) → Memory → Type 0
+HasHonestDevice machine place device = IsHonestServerDevice memory_device place (records_of (core_at machine place)) (record_in_doubt (core_at machine place)) device
+
+-- a start of the script's server was refused: the machine's runs all the same, and holds what that held
+pub record IsStoppedAt (lost : Bool) (machine : Machine) (place : ℕ) (replica : ScriptServer) : Type 0 where
+  pub left : StoppedServer Memory
+  pub is : replica ≡ Stopped left
+  pub last_is : left.last ≡ holds_of (core_at machine place)
+  pub sound : IsSoundServer (core_at machine place)
+  pub honest : lost ≡ false → HasHonestDevice machine place left.device
+  pub runs : (machine.servers place).stopped ≡ false
+
+abbrev pub IsBeside : (lost : Bool) → Machine → (place : ℕ) → ScriptServer → Type 0
+IsBeside lost machine place replica = IsRunningAt lost machine place replica ⊎ IsStoppedAt lost machine place replica
 
 -- the machine's session of the script's, which a line has opened
 pub record IsSeated (machine : Machine) (who : ℕ) (seat : Seat) : Type 0 where
@@ -81,7 +116,7 @@ pub record IsSeated (machine : Machine) (who : ℕ) (seat : Seat) : Type 0 where
   pub there : machine.sessions who ≡ Some session
   pub is : IsSeatOf who seat session
 
--- the script stands, behind these of its lines, as the machine does
+-- the script stands, after these of its lines, as the machine does
 pub record IsAt (plan : Plan) (front rest : List Said) (state : ScriptState) (machine : Machine) : Type 0 where
   pub split : plan.commands ≡ front ++ rest
   pub events : List Event
@@ -90,8 +125,9 @@ pub record IsAt (plan : Plan) (front rest : List Said) (state : ScriptState) (ma
   pub count : machine.count ≡ plan.count
   pub limit : machine.limit ≡ plan.limit
   pub count_is : state.standing.count ≡ plan.count
+  pub limit_is : state.standing.limit ≡ plan.limit
   pub one_each : length state.standing.servers ≡ plan.count
-  pub each : (place : ℕ) (replica : ScriptServer) → StandsAt state.standing place replica → IsRunningAt machine place replica
+  pub each : (place : ℕ) (replica : ScriptServer) → StandsAt state.standing place replica → IsBeside (has_lost place front) machine place replica
   pub one_seat_each : length state.standing.sessions ≡ SESSIONS
   pub known : (who : ℕ) → is_open who front ≡ true → who < SESSIONS
   pub opened : (who : SessionId) → is_open who.index front ≡ true → IsSeated machine who.index (seat_of state.standing who)
@@ -122,9 +158,37 @@ pub record AreRows (last : Machine) : Type 0 where
       → Step last (events.Collect place offer) (replies.Flown (length last.items) (length lacking)) (record last { items = last.items ++ lacking }))
   pub takes_are : (place item : ℕ) (made : Made) → IsGiven last place item made → (answer : Result Took TakeFault) (new : Core) → Takes (core_at last place) made.write answer new
       → (next : Machine) × TakeStep last place item (replies.Took answer) next × (new ≡ core_at next place)
+  pub reopens_are : (place : ServerId) → IsRunning last place.index → (answer : Result Reopened ReopenFault) (new : Core) → IsHonestAnswer answer → Reopens (core_at last place.index) answer new
+      → (next : Machine) × Step last (events.Reopen place) (replies.Reopened answer) next × IsOnlyServer last place.index new next
+  pub starts_are : (place : ServerId) → place.index < last.count → (new : Core) → Starts place.index last.count last.limit new
+      → AreHonest (records_of (core_at last place.index)) (record_in_doubt (core_at last place.index)) (records_of new)
+      → (next : Machine) × Step last (events.Restart place) (replies.Restarted (Ok (length new.held))) next × IsOnlyServer last place.index new next
+  pub needs_are : (session : SessionSets) (told : Told) → StandsFor told session → NeedsAgree last session told
   pub hears_are : (who : ℕ) (session : SessionSets) (answered : Answered) → last.sessions who ≡ Some session → session.flight ≡ Some answered
       → (old new : Told) → StandsFor old session → IsToldOf answered.entry.what old new → StandsFor new (heard answered session)
 
 -- the laws say it of each run of the script's
 abbrev pub HaveRows : Plan → Type 0
 HaveRows plan = (events : List Event) (replies : List Reply) (last : Machine) → Run (first_of_script plan) events replies last → AreRows last
+
+-- what the laws of servers say of devices in memory, whose failed calls do no more than to tear
+pub record StayHonest : Type 0 where
+  pub written : (tag : Tag) (need : List ℕ) (program : Program) (result : Result Written WriteFault) (old new : Serving) → IsSoundServer old.core → IsSoundServer new.core
+      → IsHonestServer memory_device old → Writes old.core tag need program result new.core → StoresWrite memory_device old result new → KeepsChains (kept_bytes old.device) (kept_bytes new.device)
+      → IsHonestServer memory_device new
+  pub taken : (given : Write) (result : Result Took TakeFault) (old new : Serving) → IsSoundServer old.core → IsSoundServer new.core
+      → IsHonestServer memory_device old → Takes old.core given result new.core → StoresTaken memory_device old result new → KeepsChains (kept_bytes old.device) (kept_bytes new.device)
+      → IsHonestServer memory_device new
+  pub reopened : (result : Result Reopened ReopenFault) (old new : Serving) → IsSoundServer old.core → IsHonestServer memory_device old
+      → Reopens old.core result new.core → ReopensJournal memory_device old result new → KeepsChains (kept_bytes old.device) (kept_bytes new.device) → IsHonestServer memory_device new
+  pub answered : (result : Result Reopened ReopenFault) (old new : Serving) → IsSoundServer old.core → IsHonestServer memory_device old
+      → Reopens old.core result new.core → ReopensJournal memory_device old result new → IsHonestAnswer result
+  pub started : (id count limit dropped : ℕ) (device : Memory) (server : Serving) → Starts id count limit server.core → StartsOn memory_device device server dropped → IsHonestServer memory_device server
+  pub found : (old : Core) (dropped : ℕ) (device : Memory) (server : Serving) → IsSoundServer old → IsHonestServerDevice memory_device old.id (records_of old) (record_in_doubt old) device
+      → Starts old.id old.count old.limit server.core → StartsOn memory_device device server dropped → AreHonest (records_of old) (record_in_doubt old) (records_of server.core)
+  pub refused : (old : Core) (device left : Memory) (fault : StartFault) → IsSoundServer old → IsHonestServerDevice memory_device old.id (records_of old) (record_in_doubt old) device
+      → FailsToStart memory_device old.id old.count old.limit device left fault → KeepsChains (kept_bytes device) (kept_bytes left)
+      → IsHonestServerDevice memory_device old.id (records_of old) (record_in_doubt old) left
+  pub device : (server : Serving) → IsHonestServer memory_device server → IsHonestServerDevice memory_device server.core.id (records_of server.core) (record_in_doubt server.core) server.device
+  pub moved : (server : Serving) (other : Memory) → other.bytes ≡ server.device.bytes → kept_bytes other ≡ kept_bytes server.device
+      → IsHonestServer memory_device server → IsHonestServer memory_device (with_device server other)

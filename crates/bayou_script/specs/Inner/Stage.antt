@@ -17,7 +17,7 @@ Begins (Some started) others front =
 abbrev pub Flags : List Bool → List Said → Type 0
 Flags opened front = (who : ℕ) → who < SESSIONS → slice_index_or opened who false ≡ is_open who front
 
--- the stage of what was said, which is these lines behind the one that started the servers
+-- the stage of what was said, which is these lines after the one that started the servers
 pub record IsStageOf (stage : Stage) (others front : List Said) : Type 0 where
   pub begins : Begins stage.servers others front
   pub flags : Flags stage.opened front

@@ -1,4 +1,4 @@
--- What a command uses, as it is told while a script is checked.
+-- What a command uses, as it is noted while a script is checked.
 use Rattle.std.specs.Prelude.{◌≡◌, ℕ, List, [], ◌∷◌, map}
 use Rattle.std.specs.Option.{option_to_list}
 use Rattle.bayou_script.specs.declared.uses.UsedServers.{UsedServers}

@@ -32,7 +32,7 @@ Stands journal holding (Some write) = holding.together ≡ false → IsReserved 
 abbrev pub forgetting : Core → Core
 forgetting core = record core { doubt = None; doubt_tag = None }
 
--- Those in doubt that were being stored together might be taken, one after another. Behind one that was being stored alone is none.
+-- Those in doubt that were being stored together might be taken, one after another. After one that was being stored alone is none.
 abbrev pub AreInDoubt : Core → Option Write → (together : Bool) → (taking : List Write) → Type 0
 AreInDoubt core None together taking = (taking ≡ []) × (together ≡ false)
 AreInDoubt core (Some first) false taking = taking ≡ []

@@ -48,7 +48,7 @@ pub record IsReady (id : ℕ) (old : Holding) (given : List Write) (many room : 
   pub place : 0 < new.tags.room
   pub places : many ≤ deque_capacity new.taking
 
--- The first of the Writes that were given is held, as if its entry were stored, the body of which stands behind the others.
+-- The first of the Writes that were given is held, as if its entry were stored, the body of which stands after the others.
 pub record IsGathered (id : ℕ) (old : Holding) (given left : List Write) (before after : List (List ℕ)) (size : ℕ) (new : Holding) : Type 0 where
   pub write : Write
   pub split : given ≡ write ∷ left
@@ -82,7 +82,7 @@ pub record AreGathered (id : ℕ) (old : Holding) (given left : List Write) (bod
   pub together : new.together ≡ old.together
   pub places : length writes ≤ deque_capacity new.taking
 
--- what is told of several Writes of which this is the only one that was answered
+-- what is reported of several Writes of which this is the only one that was answered
 abbrev pub told_one : Wid → Result Took TakeFault → TookAll
 told_one wid (Ok New) = record { taken = 1; had = 0; refused = None }
 told_one wid (Ok Had) = record { taken = 0; had = 1; refused = None }

@@ -22,7 +22,7 @@ pub record IsAdmitted (id : ℕ) (log : Log) (tags : TagList) (body : Body) (sto
   pub follows : MayFollow id log.count log.receipts stored.write
   pub room : length log.receipts < log.limit
 
--- the Write and the tag that the body stands for may follow those that are held, and are added behind them
+-- the Write and the tag that the body stands for may follow those that are held, and are added after them
 pub record IsAdded (id : ℕ) (old : Holding) (body : Body) (new : Holding) : Type 0 where
   pub stored : Record
   pub admitted : IsAdmitted id old.log old.tags body stored
@@ -59,7 +59,7 @@ AreOthers core doubt bodies Lost = ¬ BeginsWithHeld core.id (records_of core) b
 AreOthers core doubt bodies (BadRecord at) = (at ≡ length core.held) × HasOther core doubt bodies
 AreOthers core doubt bodies OutOfMemory = Unit {0}
 
--- of the Writes in doubt so many stand behind those of what is held
+-- of the Writes in doubt so many stand after those of what is held
 abbrev pub AreHeldAndSome : Core → (doubt : Write) → (taking : List Write) → List Body → ℕ → Type 0
 AreHeldAndSome core doubt taking bodies number =
     ((number ≡ 0) × Stores core.id bodies (records_of core))

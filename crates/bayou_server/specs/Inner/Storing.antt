@@ -39,7 +39,7 @@ abbrev pub StaysStored : {D : Type 0} → Ghosts D → (old : ServerState D) →
 StaysStored d old Held new = IsStored d old → IsStored d new
 StaysStored d old InDoubt new = Unit {0}
 
--- The Write is held behind the others, with the tag that came.
+-- The Write is held after the others, with the tag that came.
 pub record IsHeld (old : Holding) (write : Write) (new : Holding) : Type 0 where
   pub log : new.log ≡ record old.log { receipts = old.log.receipts ++ write ∷ []; room = new.log.room; waiting = new.log.waiting }
   pub tags : new.tags ≡ record old.tags { tags = old.tags.tags ++ old.tags.coming ∷ []; coming = None; room = new.tags.room }
@@ -47,7 +47,7 @@ pub record IsHeld (old : Holding) (write : Write) (new : Holding) : Type 0 where
   pub taking : new.taking ≡ old.taking
   pub together : new.together ≡ old.together
 
--- what comes of a Write once its entry was to be added: it is held behind the others, or is in doubt
+-- what comes of a Write once its entry was to be added: it is held after the others, or is in doubt
 abbrev pub Settles : Holding → Write → Result (Unit {0}) AppendFault → Stored → (new : Holding) → Type 0
 Settles old write (Ok done) Held new = IsHeld old write new
 Settles old write (Err reason) InDoubt new = new ≡ record old { doubt = Some write }

@@ -52,7 +52,7 @@ fewer_rest old new given taking rest told all some gives = by told.refused refl 
 
 -- ---- a reopening
 
--- where no other is in doubt behind the Write in doubt, it is as ever
+-- where no other is in doubt after the Write in doubt, it is as ever
 pub reopens_one : (old : Core) (taking : List Write) (answer : Result Reopened ReopenFault) (new : Core) → ReopensAll old taking answer new → taking ≡ [] → Reopens old answer new
 reopens_one old taking (Ok reopened) new (inl one) none = one
 reopens_one old taking (Ok reopened) new (inr several) none =

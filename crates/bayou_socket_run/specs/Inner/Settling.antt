@@ -32,7 +32,7 @@ pub record EndsAt (servers : List Begun) (number : ℕ) (ended : Ended) (text : 
   pub printed : text ≡ books_text number totals nodes verdict
   pub status : ended_status ended ≡ verdict_status verdict
 
--- the same behind some lines of a run
+-- the same after some lines of a run
 pub record EndsRunAt (servers : List Begun) (number : ℕ) (ended : Ended) (old new : Account) : Type 0 where
   pub lines : List ℕ
   pub text : List ℕ

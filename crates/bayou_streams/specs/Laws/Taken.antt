@@ -1,4 +1,4 @@
--- What an output took, one text behind another.
+-- What an output took, one text after another.
 use Rattle.std.proofs.Common.{◌≡◌, ℕ, zero, suc, ◌+◌, ◌-◌, ◌*◌, ◌^◌, ◌<◌, ◌≤◌, min, List, [], ◌∷◌, ◌++◌, ◌∙◌, Option, None, Some, Result, Ok, Err, refl, ap, sym, subst, length, get_or, take, drop, cond, ◌==◌, length-append, take-append-drop, arith, zero-add, add-zero}
 use Rattle.std.proofs.KnownBytes.{Appends-nil, Appends-trans}
 use Rattle.std.proofs.lemmas.List.{append-nil, drop_more, get_or-append-add}

@@ -51,13 +51,13 @@ impl<'a> Glance<'a> {
         number
     }
 
-    /// The number behind one byte.
+    /// The number after one byte.
     fn next_number(&mut self) -> u32 {
         self.skip();
         self.number()
     }
 
-    /// Whether the word comes next, which is passed then with one byte behind it.
+    /// Whether the word comes next, which is passed then with one byte after it.
     fn word(&mut self, word: &[u8]) -> bool {
         let is_next = self.pass(word);
         if is_next {
@@ -171,7 +171,7 @@ impl<'a> Glance<'a> {
         Some(conditions)
     }
 
-    /// The update that comes next, behind the beginning of its list, up to the end of the program.
+    /// The update that comes next, after the beginning of its list, up to the end of the program.
     fn update(&mut self, alloc: Global) -> Option<Vec<Op>>
         ensures { IfSome result (λ ops. length ops.items ≤ MOST_OPS) }
     {
@@ -193,7 +193,7 @@ impl<'a> Glance<'a> {
         Some((RestingProgram::of_update(update), is_whole))
     }
 
-    /// The program that comes next, behind the beginning of its check, of a check and an update.
+    /// The program that comes next, after the beginning of its check, of a check and an update.
     fn checked(&mut self, alloc: Global) -> Option<RestingProgram> {
         let check = self.conditions(alloc)?;
         if check.len() > MAX_CONDITIONS || !self.pass(b"],\"update\":[") {
@@ -305,9 +305,9 @@ pub(crate) fn guess_held(alloc: Global, bytes: &[u8]) -> Option<GuessedHeld> {
 /// Which members of a program stand in a line.
 #[derive(Clone, Copy, Debug, PartialEq, Eq)]
 pub(crate) enum Members {
-    /// The update, behind the empty check and the empty merge procedure where it is whole.
+    /// The update, after the empty check and the empty merge procedure where it is whole.
     Update { is_whole: bool },
-    /// The check, and the update behind it.
+    /// The check, and the update after it.
     CheckAndUpdate,
 }
 

@@ -7,7 +7,7 @@ use crate::line::{LineFault, Shape};
 use bayou_base::{Key, Prefix, Value as Stored};
 use serde_json::Value;
 
-/// The word that a list begins with, and what stands behind it.
+/// The word that a list begins with, and what stands after it.
 fn headed(list: &[Value]) -> Option<(&str, &[Value])>
     ensures { option_map (λ parts. (parts.0.now, map view parts.1.now)) result ≡ headed (map view list.now) }
 {
@@ -17,7 +17,7 @@ fn headed(list: &[Value]) -> Option<(&str, &[Value])>
     Some((first.as_str()?, rest))
 }
 
-/// The word that an array begins with, and what stands behind it.
+/// The word that an array begins with, and what stands after it.
 #[tactic(auto, using(crate::proofs::Views::listed_view))]
 pub(crate) fn worded(json: &Value) -> Option<(&str, &[Value])>
     ensures { option_map (λ parts. (parts.0.now, map view parts.1.now)) result ≡ worded (view json.now) }

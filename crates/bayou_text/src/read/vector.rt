@@ -8,7 +8,7 @@ use crate::read::number::tally_in;
 use bayou_base::{SERVERS, Vector};
 use serde_json::Value;
 
-/// The counts, and 0 for each server of which none is told.
+/// The counts, and 0 for each server of which none is given.
 fn counts_in(list: &[Value]) -> Result<[u32; SERVERS], LineFault>
     requires { length list.now ≤ SERVERS }
     ensures read { result ≡ grammar.padded_in (map view list.now) }
@@ -35,7 +35,7 @@ fn vector_of(list: &[Value]) -> Result<(Vector, u8), LineFault>
     Ok((vector, list.len() as u8))
 }
 
-/// The vector, and how many of its counts are told.
+/// The vector, and how many of its counts are given.
 #[tactic(auto, using(crate::proofs::Views::listed_view), unfolding(crate::specs::Audit::vector_in))]
 pub(crate) fn vector_in(json: &Value) -> Result<(Vector, u8), LineFault>
     ensures { result ≡ grammar.vector_in (view json.now) }

@@ -1,4 +1,4 @@
--- Reading greetings from left to right: what stands at the front of bytes, and the bytes behind it. No public clause cites this.
+-- Reading greetings from left to right: what stands at the front of bytes, and the bytes after it. No public clause cites this.
 use Rattle.std.proofs.lemmas.Bool.{ltb-true, leb-true}
 use Rattle.std.specs.Prelude.{refl, ◌≡◌, ◌⊎◌, ℕ, Bool, true, false, List, [], ◌∷◌, Option, None, Some, Result, Ok, Err, length, take, drop, nat_lt, nat_le, ◌==◌, ◌||◌, if◌then◌else◌}
 use Rattle.std.specs.Int.{w32, w64}
@@ -114,7 +114,7 @@ is_greeting_kind kind =
     || (kind == layout.KIND_KNOWN) || (kind == layout.KIND_DIFFERS) || (kind == layout.KIND_DIGESTED)
     || (kind == layout.KIND_LIST) || (kind == layout.KIND_BECAME) || (kind == layout.KIND_LISTED) || (kind == layout.KIND_OUTCOME)
 
--- what bytes are as a kind and a payload, and what stands behind it
+-- what bytes are as a kind and a payload, and what stands after it
 abbrev pub IsUnpacked : List ℕ → Result Unpacked DecodeFault → Type 0
 IsUnpacked bytes (Ok unpacked) = Packs bytes unpacked.kind unpacked.payload.now unpacked.behind.now
 IsUnpacked bytes (Err faults.TooLong) = IsFaulty bytes faults.TooLong
@@ -122,7 +122,7 @@ IsUnpacked bytes (Err faults.BadBody) = IsPartial bytes ⊎ HasLength bytes 0
 IsUnpacked bytes (Err faults.BadKind) = ⊥
 IsUnpacked bytes (Err faults.Trailing) = ⊥
 
--- what a kind and a payload are, behind which this stands
+-- what a kind and a payload are, after which this stands
 abbrev pub UnpackedAnswer : ℕ → List ℕ → List ℕ → Result Greeting DecodeFault → Type 0
 UnpackedAnswer kind payload more (Ok greeting) =
     IsGreeting greeting × (greeting_kind greeting ≡ kind) × (payload ≡ greeting_payload greeting) × (more ≡ [])

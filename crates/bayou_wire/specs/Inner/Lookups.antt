@@ -1,4 +1,4 @@
--- Reading what is asked beside one key, and what is told, from left to right. No public clause cites this.
+-- Reading what is asked beside one key, and what is answered, from left to right. No public clause cites this.
 use Rattle.std.specs.Prelude.{ℕ, Bool, true, false, List, [], ◌∷◌, Option, None, Some, nat_lt, ◌==◌, if◌then◌else◌}
 use Rattle.std.specs.Int.{w16, w32}
 use Rattle.bayou_base.specs.declared.value.Value.{Value}
@@ -20,7 +20,7 @@ optional_key_at (len ∷ bytes) = if len == 0 then Some (None, bytes) else made 
 unfoldable pub row_at : List ℕ → Read (List ℕ × Value)
 row_at bytes = both key_at value_at bytes
 
--- how many rows, where they are no more than are told at once, and the rows
+-- how many rows, where they are no more than are listed at once, and the rows
 unfoldable pub rows_at : List ℕ → Read (List (List ℕ × Value))
 rows_at bytes = number_at w16 bytes >>= λ count. if nat_lt layout.ROWS_AT_ONCE count.0 then None else times count.0 row_at count.1
 

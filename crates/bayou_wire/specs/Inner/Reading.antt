@@ -1,4 +1,4 @@
--- Reading from left to right: what stands at the front of bytes, and the bytes behind it. No public clause cites this.
+-- Reading from left to right: what stands at the front of bytes, and the bytes after it. No public clause cites this.
 use Rattle.std.proofs.lemmas.Bool.{ltb-true, leb-true}
 use Rattle.std.specs.List.{AllByRecursion, list_all}
 use Rattle.std.specs.Prelude.{refl, ◌≡◌, ℕ, zero, suc, ◌<◌, ◌≤◌, ℤ, Bool, true, false, List, [], ◌∷◌, ◌++◌, Option, None, Some, Result, Ok, Err, option_and_then, length, take, drop, nat_lt, nat_le, ◌==◌, is_none, ◌||◌, if◌then◌else◌}
@@ -245,7 +245,7 @@ head_at Plain bytes = Some (None, bytes)
 head_at Tagged bytes = tagged_head_at bytes
 head_at Wide bytes = tagged_head_at bytes
 
--- what the bytes behind it spell
+-- what the bytes after it spell
 abbrev pub SpellsIn : Form → List ℕ → Write → Type 0
 SpellsIn Plain bytes write = SpellsOld bytes write
 SpellsIn Tagged bytes write = SpellsOld bytes write
@@ -322,7 +322,7 @@ pub record IsTaken (bytes : List ℕ) (frames : List Frame) (left : ℕ) (fault 
   pub size : length rest ≡ left
   pub is : IsRestOf rest fault
 
--- the fault behind the frames, where there are none
+-- the fault after the frames, where there are none
 abbrev pub IsFirst : List Frame → Option DecodeFault → Option DecodeFault → Type 0
 IsFirst frames behind (Some fault) = (frames ≡ []) × (behind ≡ Some fault)
 IsFirst frames behind None = frames ≡ [] → behind ≡ None
@@ -334,7 +334,7 @@ Keeps bytes (Err (feeds.Fault fault)) now = IsFaulty bytes fault
 Keeps bytes (Err feeds.OutOfMemory) now = ⊥
 Keeps bytes (Err feeds.Failed) now = ⊥
 
--- which fault, if any, stands in a frame's place in what is held back then, unless one was told
+-- which fault, if any, stands in a frame's place in what is held back then, unless one was reported
 abbrev pub StandsBehind : Result (List Frame) FeedFault → List ℕ → Option DecodeFault → Type 0
 StandsBehind (Err (feeds.Fault told)) now behind = Unit {0}
 StandsBehind (Err feeds.OutOfMemory) now behind = IsFaultAt now behind

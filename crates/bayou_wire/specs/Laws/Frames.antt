@@ -1,4 +1,4 @@
--- Laws of frames in their spelling, for proofs of the crates above: bytes begin with one thing, and frames stand one behind another.
+-- Laws of frames in their spelling, for proofs of the crates above: bytes begin with one thing, and frames stand one after another.
 use Rattle.std.proofs.Common.{arith, ◌≡◌, ◌<◌, ◌≤◌, ◌*◌, ℕ, zero, suc, ◌+◌, List, [], ◌∷◌, ◌++◌, length, length-append, drop, get_or, append_assoc, sym, ap, ◌∙◌}
 use Rattle.std.proofs.lemmas.List.{drop_more}
 use Rattle.std.specs.List.{AllByRecursion}
@@ -50,7 +50,7 @@ frame_size : (frame : Frame) → 3 ≤ length (spelling frame)
 unfolding spelling
 frame_size frame = omega arith
 
--- ---- frames one behind another
+-- ---- frames one after another
 
 -- each of some frames is a frame
 pub frame_at : (frames : List Frame) (i : ℕ) (frame : Frame) → AllByRecursion IsFrame frames → i < length frames → frame ≡ get_or frames i frame → IsFrame frame

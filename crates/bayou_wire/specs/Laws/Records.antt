@@ -136,7 +136,7 @@ no_head form bytes none given spells =
     let read = read_of form bytes given spells in
     none-some (given.tag, read.0) (sym none ∙ read.1)
 
--- and without a Write behind it
+-- and without a Write after it
 pub no_write : (form : Form) (bytes rest : List ℕ) (tag : Option Tag) → head_at form bytes ≡ Some (tag, rest) → ((write : Write) → SpellsIn form rest write → ⊥)
     → (given : Record) → SpellsRecord form bytes given → ⊥
 no_write form bytes rest tag head none given spells =

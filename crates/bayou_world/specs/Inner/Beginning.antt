@@ -59,7 +59,7 @@ pub record IsFirstState (begun : Begun) (state : State) : Type 0 where
   pub items : state.items.items ≡ []
   pub served : state.served.items ≡ []
 
--- what is told of a run in the end; no append of a server's device found no memory
+-- what is reported of a run in the end; no append of a server's device found no memory
 pub record IsLeft (servers : List WorldServer) (served_last : List Entry) (answers : List Reply) (booked : Totals) (history : RunHistory) : Type 0 where
   pub ample : AreAmple servers
   pub replies : history.replies.items ≡ answers

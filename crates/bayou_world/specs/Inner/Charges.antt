@@ -63,7 +63,7 @@ pub record IsCharged (failed fused : ℕ) (device : Memory) : Type 0 where
 abbrev pub IsUnused : Memory → Type 0
 IsUnused device = IsCharged 0 0 device
 
--- so it is of each server behind these events and replies, and at each time before the faults were no more than the fuses and what
+-- so it is of each server after these events and replies, and at each time before the faults were no more than the fuses and what
 -- lacks there are by now
 pub record AreCharged (many : ℕ) (events : List Event) (replies : List Reply) (servers : List WorldServer) : Type 0 where
   pub as_many : length events ≡ length replies

@@ -23,7 +23,7 @@ Rises one other = one.session.index ≡ other.session.index → one.place < othe
 abbrev pub IsBelow : (who bound : ℕ) → Entry → Type 0
 IsBelow who bound entry = entry.session.index ≡ who → entry.place < bound
 
--- the session's entries that wait stand in its order, behind those of it that are filed, and before the answer in flight
+-- the session's entries that wait stand in its order, after those of it that are filed, and before the answer in flight
 pub record IsQueued (count : ℕ) (asks : ℕ → Option Asks) (served : List Answered) (filed : List Entry) (who : ℕ) (session : SessionSets) : Type 0 where
   pub own : All (λ (entry : Entry). entry.session.index ≡ who) session.waiting
   pub entered : All (IsEntered count asks served) session.waiting

@@ -62,7 +62,7 @@ IsCovered session (whats.Read key vector) answered = IsCoveredRead session answe
 IsCovered session (whats.Write wid stamp deps) answered = (made : Made) → answered.made ≡ Some made → CoversWrite session made.past
 IsCovered session whats.Refused answered = Unit {0}
 
--- The answer in flight is of the session's last place, behind all that was served, and was covered. A Write in it has a tag of the session,
+-- The answer in flight is of the session's last place, after all that was served, and was covered. A Write in it has a tag of the session,
 -- which may ask none again where it reads.
 pub record IsGoodFlight (served : List Answered) (who : ℕ) (session : SessionSets) (answered : Answered) : Type 0 where
   pub session_is : answered.entry.session.index ≡ who

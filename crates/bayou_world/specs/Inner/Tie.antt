@@ -44,7 +44,7 @@ pub record IsWorldServerOf (count limit place : ℕ) (world_server : WorldServer
   pub core : IsServerOf count limit place (core_of world_server) server
   pub kept : IsKept world_server
 
--- what was accepted is told by the entry
+-- the entry tells what was accepted
 abbrev pub IsAcceptedIn : What → Option Accepted → Type 0
 IsAcceptedIn (whats.Read key vector) accepted = accepted ≡ None
 IsAcceptedIn (whats.Write wid stamp deps) accepted = (told : Accepted) × (accepted ≡ Some told) × (told.wid ≡ wid)

@@ -1,4 +1,4 @@
--- What sessions are told in the end is what was done: callers don't see it.
+-- What sessions learn in the end is what was done: callers don't see it.
 use Rattle.std.specs.Prelude.{◌≡◌, ◌≢◌, ℕ, ◌<◌, ◌≤◌, List, [], Option, Some, All, AllPairs, Contains}
 use Rattle.bayou_base.specs.declared.asks.Asks.{Asks}
 use Rattle.bayou_base.specs.declared.entry.What.{What}
@@ -9,7 +9,7 @@ use Rattle.bayou_judge.specs.Evidence.{TellsOf}
 use Rattle.bayou_judge.specs.History.{IsFrontOf}
 use Rattle.bayou_world.specs.Machine.{Answered, Machine, Made, ServerSets, SessionSets, writes}
 
--- a Write that is told of is the server's own, and its name, its stamp and what was held are as they are told
+-- a Write that this tells of is the server's own, and its name, its stamp and what was held are as this says
 abbrev pub IsToldBy : What → (server : ℕ) → Option Made → Type 0
 IsToldBy (whats.Read key vector) server accepted = Unit {0}
 IsToldBy (whats.Write wid stamp deps) server accepted = (made : Made) × (accepted ≡ Some made) × (wid ≡ made.write.wid) × (stamp ≡ made.write.stamp) × (deps ≡ made.write.deps)

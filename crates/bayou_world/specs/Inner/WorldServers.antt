@@ -34,7 +34,7 @@ core_of (Stopped role left) = record {
 abbrev pub held_by : WorldServer → List Write
 held_by world_server = (core_of world_server).held
 
--- a server over an honest device, behind whose Write in doubt no other is
+-- a server over an honest device, after whose Write in doubt no other is
 pub record IsHonestAlone (server : ServerState Memory) : Type 0 where
   pub honest : IsHonestServer memory_device server
   pub alone : server.taking ≡ []

@@ -72,7 +72,7 @@ pub record Asks (old : WorldSession) (session : Told) (asked : Asked) (number : 
   pub honest : StaysHonest server new_server
   pub spends : Spends (has_doubt answer) false server.device new_server.device
 
--- what a session is told
+-- what a session learns
 abbrev pub after_read : What → Told → Told
 after_read (whats.Read key vector) told = record told { reads = joined told.reads vector }
 after_read (whats.Write wid stamp deps) told = told

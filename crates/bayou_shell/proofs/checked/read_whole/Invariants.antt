@@ -1,5 +1,4 @@
 -- what came so far was read, and each turn took one from those left
-use Rattle.std.proofs.Common.{◌≡◌}
 use Rattle.std.specs.Io.KnownBytes.{Consumes}
 use Rattle.bayou_shell.proofs.checked.read_whole.Given as goal
 

@@ -1,10 +1,10 @@
-use Rattle.std.proofs.Common.{IfSome, List, ℕ}
+use Rattle.std.proofs.Common.{List, ℕ}
 use Rattle.std.proofs.KnownBytes.{Keeps-refl}
 use Rattle.std.proofs.lemmas.Result.{err_from_is_err_and}
 use Rattle.bayou_script.specs.Network.{IsNetworkScript}
 use Rattle.bayou_script.specs.Plan.{network_plan_of}
 use Rattle.bayou_script.specs.Script.{lines_of}
-use Rattle.bayou_shell.proofs.Nets.{if_some, nets_unread, nets_without_memory}
+use Rattle.bayou_shell.proofs.Nets.{if_some, nets_unread}
 use Rattle.bayou_shell.proofs.net.read_net.Goals as goal
 
 pub returns-in_err-script-clause-nets : goal.returns-in_err-script-clause-nets

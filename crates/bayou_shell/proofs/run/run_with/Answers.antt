@@ -13,8 +13,9 @@ returns-in_err-script-clause-runs g c =
 
 pub returns-clause-runs : goal.returns-clause-runs
 returns-clause-runs g c =
-    RunsAs-script (g.R.Read.remaining c.args.input.now.reader) (account g.W.Write.contents c.args.output.now) (account g.W.Write.contents c.answer_all.new.output)
-    (plan_of c.in_ok-script.script) c.answer_all.result c.in_ok-script.ensures.script c.answer_all.ensures.ok c.answer_all.ensures.err
+    let servers = c.in_ok-script.script.servers in
+    RunsAs-script c.a_script_is_a_run.ensures (g.R.Read.remaining c.args.input.now.reader) (account g.W.Write.contents c.args.output.now) (account g.W.Write.contents c.answer_all.new.output)
+    (plan_of c.in_ok-script.script) (record { some = servers.count_in_range.0; count = servers.count_in_range.1; limit = servers.limit_in_range.1 }) c.answer_all.result c.in_ok-script.ensures.script c.answer_all.ensures.ok c.answer_all.ensures.err
 
 pub returns-in_err-machine-clause-runs : goal.returns-in_err-machine-clause-runs
 returns-in_err-machine-clause-runs g c =

@@ -186,7 +186,7 @@ pub tried_is : (session : SessionId) (place : ℕ) (asks : Asks) (server : Serve
 tried_is session place asks server above =
     entry_of-is (record { session = session; place = place; asks = asks; server = server; what = what.Refused; in_range = above })
 
--- an entry of which it was told what became of it
+-- an entry that says what became of it
 abbrev pub told : (tried : Entry) → What → 0 < tried.place → Entry
 told tried became above = record {
   session = tried.session;

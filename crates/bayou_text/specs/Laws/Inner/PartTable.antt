@@ -21,7 +21,7 @@ use Rattle.bayou_text.specs.Spelling.{form}
 use Rattle.bayou_text.specs.Table.{KeyIs, PrefixIs, NumberIs, IntegerIs, ValueIs, NamedIs, KeyedIs, TermIs, OpIs, CondIs}
 use Rattle.bayou_text.specs.Values.{key_in, prefix_in, value_in}
 
--- ---- what stands behind a word
+-- ---- what stands after a word
 
 named_found : (word : List ℕ) (d : Data) (parts : List Data) (key : List ℕ) → d ≡ form word parts
     → named_in parts ≡ Ok key → NamedIs word d key

@@ -187,7 +187,7 @@ length_at-two high low more =
     let long : ltb (length (high ∷ low ∷ more)) 2 ≡ false = le-ltb _ _ (omega arith) in
     rw long (ap (λ n. Some (n, more)) (omega arith))
 
--- less than a frame has no length yet, or fewer bytes behind it than it counts
+-- less than a frame has no length yet, or fewer bytes after it than it counts
 pub partial_length : (bytes : List ℕ) (len : ℕ) (more : List ℕ) → IsPartial bytes → length_at bytes ≡ Some (len, more) → (len ≤ MAX_FRAME_BYTES) × (length more < len)
 partial_length [] len more p e = absurd (none-some (len, more) e)
 partial_length (high ∷ []) len more p e = absurd (none-some (len, more) e)
@@ -340,7 +340,7 @@ frame_answer-faulty bytes BadKind f = f
 frame_answer-faulty bytes BadBody f = inr f
 frame_answer-faulty bytes Trailing f = inl f
 
--- ---- what comes behind
+-- ---- what comes after
 
 packs_more : (bytes : List ℕ) (kind : ℕ) (payload behind more : List ℕ) → Packs bytes kind payload behind → Packs (bytes ++ more) kind payload (behind ++ more)
 packs_more bytes kind payload behind more p =

@@ -33,7 +33,7 @@ link {T} {P} tag is first others x e here there =
       | false ↦ λ _ is_other. there is_other
     ] refl e
 
--- a case with nothing behind its tag
+-- a case with nothing after its tag
 pub bare_takes : {T : Type 0} (Is : T → Type 0) (spelling : T → List ℕ) (tag : ℕ) (value : T) → Is value → spelling value ≡ tag ∷ []
     → (first : ℕ) (bytes : List ℕ) (x : T × List ℕ) → (first == tag) ≡ true → Some (value, bytes) ≡ Some x → Is x.0 × (first ∷ bytes ≡ spelling x.0 ++ x.1)
 bare_takes {T} Is spelling tag value is spells first bytes x same e =

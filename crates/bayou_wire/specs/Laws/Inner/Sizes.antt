@@ -92,7 +92,7 @@ program_size program is =
 tag_size : (tag : Tag) → length (tag_bytes tag) ≡ TAG_BYTES
 tag_size tag = refl
 
--- what a request to accept a Write has behind its kind
+-- what a request to accept a Write has after its kind
 request_size : (tag : Tag) (need : List ℕ) (program : Program) → IsProgram program
     → length (tag_bytes tag ++ (vector_bytes need ++ program_bytes program)) ≤ TAG_BYTES + SERVERS * 4 + 5771
 request_size tag need program is =

@@ -15,4 +15,5 @@ returns-in-Err c = (
   c.in-Err.ensures.sound.0,
   c.in-Err.ensures.sound.1,
   c.in-Err.ensures.safe tt,
+  c.in-Err.ensures.others,
 )

@@ -22,6 +22,7 @@ returns c =
       writes = subst (λ (n : List ℕ). Writes c.in-Running.server.core c.args.tag n c.program.result.now c.write-reply.result c.write-reply.new.self.core) need c.write-reply.ensures.writes;
       stores = c.write-reply.ensures.stores;
       sound = c.write-reply.ensures.sound;
+      others = c.write-reply.ensures.others;
       safe = c.write-reply.ensures.safe tt;
       calls = c.write-reply.ensures.calls;
       answered = c.hear_write.ensures.answered;

@@ -1,0 +1,2 @@
+mod NoMarks
+pub mod Pushed
