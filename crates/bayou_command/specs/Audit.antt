@@ -1,10 +1,10 @@
--- The words behind `audit`: what they take, and what they ask for.
+-- The words after `audit`: what they take, and what they ask for.
 use Rattle.std.specs.Prelude.{Bool, ◌&&◌, List, [], ◌∷◌, Option, codes, is_some, not, option_map, true}
 use Rattle.clap.specs.Words.{App, Row, Rule, Text, new_app}
 use Rattle.bayou_command.specs.Options.{Input, file_option_rule, file_rule, flag_of, flag_rule, given_of, input_of, input_seen, with_rules}
 use Rattle.bayou_command.specs.declared.auditing.Auditing.{Auditing}
 
--- a file, whether it is explained, whether that is told as JSON, and the file of a picture
+-- a file, whether it is explained, whether that is printed as JSON, and the file of a picture
 abbrev pub audit_rules : List Rule
 audit_rules = flag_rule (codes "explain") ∷ flag_rule (codes "json") ∷ file_option_rule (codes "picture") ∷ (record file_rule { required = true }) ∷ []
 

@@ -4,7 +4,7 @@ use Rattle.clap.specs.Words.{App, Row, new_app, with_rule}
 use Rattle.bayou_command.specs.Options.{Input, file_rule, flag_of, flag_rule, input_of, input_seen}
 use Rattle.bayou_command.specs.declared.checking.Checking.{Checking}
 
--- `check` takes a file, and whether faults are told as JSON
+-- `check` takes a file, and whether faults are printed as JSON
 abbrev pub check_app : App
 check_app = with_rule (with_rule (new_app (codes "check")) (flag_rule (codes "json"))) (record file_rule { required = true })
 

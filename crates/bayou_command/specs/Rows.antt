@@ -164,11 +164,11 @@ audit_words words = codes "bayou" ∷ codes "audit" ∷ words
 abbrev pub explained_audit : Audit
 explained_audit = record { file = file (codes "f"); is_explained = true; is_json = false; picture = None }
 
--- the number that a text is in decimal digits, behind a sign or none
+-- the number that a text is in decimal digits, after a sign or none
 abbrev pub number_written : Text → ℕ
 number_written text = digits_value 10 (without_leading_plus (without_minus text))
 
--- any text behind an option: a number from least to most is asked for as it is written, and any other text is refused
+-- any text after an option: a number from least to most is asked for as it is written, and any other text is refused
 pub record TakesNumbers (least most : ℕ) (words : Text → List Text) (asked : ℕ → Asked) : Type 0 where
   pub taken : (text : Text) → is_signed_in (pos least) (pos most) text ≡ true → AskFor (words text) (asked (number_written text))
   pub refused : (text : Text) → is_signed_in (pos least) (pos most) text ≡ false → faults_of (words text) ≡ ValueValidation ∷ []

@@ -64,7 +64,7 @@ pub data Asked : Type 0 where
 abbrev pub folder_of : List Row → Text
 folder_of rows = text_of folder_name rows
 
--- an audit of the file, or one of which more is told
+-- an audit of the file, or one that prints more
 abbrev pub audit_of : List Row → Asked
 audit_of rows = let audit = auditing_of rows in if is_plain audit then an_audit audit.file else an_explanation audit
 

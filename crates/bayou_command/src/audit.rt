@@ -72,7 +72,7 @@ Exit status: 0 clean; 1 broken; 2 the verdict, the file or the command line is r
 Pages: docs/AUDIT.md (how to write such a file, and what a verdict means), docs/GUARANTEES.md (what a session may ask for),
 docs/FORMATS.md (lines in and out), docs/TROUBLE.md (what to do about each fault), examples/README.md (audit files)."#;
 
-// The command with the options that say what more is told, and the file.
+// The command with the options that say what more is printed, and the file.
 fn with_told<'a>(alloc: Global, command: Command<'a>) -> Result<Command<'a>, AllocError>
     ensures app { IfOk result (λ made. app_of made ≡ with_rules (app_of command.entry) audit_rules) }
     ensures local { IfOk result (λ made. (fields_of made).has_globals ≡ (fields_of command.entry).has_globals) }

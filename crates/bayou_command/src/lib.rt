@@ -664,7 +664,7 @@ pub fn renewals_are_named()
 {}
 
 /// A law: `bayou export` asks for the rows of servers that are named, in the order of the words, or of a server's journal, of those keys that begin so.
-/// Words that ask for both, or for neither, are taken as they stand: what is told of them is another's matter. With a number out of its range, with one option
+/// Words that ask for both, or for neither, are taken as they stand: what is said of them is another's matter. With a number out of its range, with one option
 /// twice, with a folder or a key of no name, with two prefixes or with a word that is no option it is refused. What stands after `--server=` is taken as it
 /// stands.
 pub fn exports_are_named()
@@ -740,7 +740,7 @@ pub fn checks_are_named()
 {}
 
 /// A law: `bayou audit` with one file, or with `-` for the standard input, and with `--explain`, `--json` or `--picture` and a name, in any order, asks for an audit of which
-/// that is told. Without a file, with two, with a picture that has no name, with one of these twice or with a word that is no option it is refused.
+/// that is printed. Without a file, with two, with a picture that has no name, with one of these twice or with a word that is no option it is refused.
 pub fn audits_are_named()
     ensures explained { AskFor (audit_words (codes "--explain" ∷ codes "f" ∷ [])) (an_explanation explained_audit) }
     ensures explained_turned { AskFor (audit_words (codes "-" ∷ codes "--explain" ∷ [])) (an_explanation (record explained_audit { file = standard })) }

@@ -1,4 +1,4 @@
--- What is told of an audit: the breaches of its survey, one after another, or why its verdict is refused.
+-- What explains an audit: the breaches of its survey, one after another, or why its verdict is refused.
 use Rattle.std.specs.Prelude.{◌≡◌, ◌≤◌, ℕ, List, [], ◌∷◌, ◌++◌, MatchOption, Option, None, Some, codes, decimal, length}
 use Rattle.std.specs.List.{filter}
 use Rattle.bayou_judge.specs.declared.breach.Breach.{Breach}

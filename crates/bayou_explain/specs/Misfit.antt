@@ -20,7 +20,7 @@ HasOther dump write = Any (λ held. (held.wid ≡ write.wid) × (held ≢ write)
 abbrev pub AreCounted : List Write → Write → (server counted held : ℕ) → Type 0
 AreCounted before write server counted held = (server < SERVERS) × (counted ≡ slice_index write.deps server) × (held ≡ slice_index (count_of before) server)
 
--- The condition that the Write fails behind these, of so many servers: its origin is none of them; it isn't the next of its server's; it counts more of a server's
+-- The condition that the Write fails after these, of so many servers: its origin is none of them; it isn't the next of its server's; it counts more of a server's
 -- Writes than there are; it doesn't count just those of its own server before it; or its clock isn't one more than the greatest that it counts.
 abbrev pub IsUnfit : ℕ → List Write → Write → Misfit → Type 0
 IsUnfit count before write (misfit.Origin origin) = (origin ≡ write.wid.origin) × ¬ (origin.index < count)
@@ -36,7 +36,7 @@ abbrev pub IsPast : List Write → Write → Misfit → Type 0
 IsPast before write (misfit.Past other counted held) = AreCounted before write other counted held × (counted ≢ held)
 IsPast before write other = ⊥
 
--- The condition that it fails behind these in this server's dump: one of those; it is the server's own, and doesn't count all that stand before it; or a smaller server
+-- The condition that it fails after these in this server's dump: one of those; it is the server's own, and doesn't count all that stand before it; or a smaller server
 -- has another Write of its name.
 abbrev pub IsMisfit : ℕ → List (List Write) → ℕ → List Write → Write → Misfit → Type 0
 IsMisfit count dumps server before write (misfit.Past other counted held) =

@@ -1,4 +1,4 @@
--- What is told of a breach: this project's own lines.
+-- What explains a breach: this project's own lines.
 use Rattle.std.specs.Prelude.{ℕ, List, ◌++◌, Option, None, Some, codes, decimal}
 use Rattle.bayou_judge.specs.declared.breach.Breach.{Breach}
 use Rattle.bayou_judge.specs.declared.breach.Guarantee.{Guarantee}

@@ -1,4 +1,4 @@
-//! What is told of an audit, whole.
+//! What explains an audit, whole.
 ghost use Rattle.std.specs.Prelude.{◌≡◌, ◌++◌, ℕ, IfOk, List, string_bytes};
 ghost use Rattle.bayou_explain.specs.Explained.{breaches_of};
 ghost use Rattle.bayou_judge.specs.History.{lent_lists};
@@ -15,7 +15,7 @@ use bayou_judge::{BadEvidence, Surveyed};
 use bayou_lang::RestingWrite;
 use std::alloc::{AllocError, Global};
 
-/// Each breach of the survey as it is told, one after another; nothing where there is none.
+/// Each breach of the survey as a person reads it, one after another; nothing where there is none.
 pub fn explanation_text(
     alloc: Global,
     lines: &[Located<'_>],

@@ -164,7 +164,7 @@ fn other_before(
     None
 }
 
-// Which condition the Write fails behind these, in this server's dump.
+// Which condition the Write fails after these, in this server's dump.
 fn misfit_among(
     count: u8,
     dumps: &[&[RestingWrite]],

@@ -1,4 +1,4 @@
-//! Breaches as they are told to people.
+//! Breaches as people read them.
 ghost use Rattle.std.specs.Prelude.{◌≡◌, ◌++◌, ℕ, IfOk, List, string_bytes};
 ghost use Rattle.bayou_explain.specs.Sentence.{entry_text, reason_text, sentence_text, title_text};
 
@@ -75,7 +75,7 @@ fn lines_text(alloc: Global, explained: &Explained<'_>) -> Result<String, AllocE
     Ok(text)
 }
 
-/// The breach as it is told: what is broken, the lines that show it, and what is wrong with them.
+/// The breach as a person reads it: what is broken, the lines that show it, and what is wrong with them.
 pub fn explained_text(alloc: Global, explained: &Explained<'_>) -> Result<String, AllocError>
     ensures { IfOk result (λ text. (lines : List ℕ) × (string_bytes text ≡ title_text explained.now.breach ++ (lines ++ sentence_text explained.now.breach))) }
 {
@@ -114,7 +114,7 @@ fn entry_title(alloc: Global, number: usize) -> Result<String, AllocError>
     format!(in alloc; "entry {number} can't be true\n")
 }
 
-/// The entry of this number, which can't be true, as it is told: its line, the one that it doesn't go with, and which condition it fails.
+/// The entry of this number, which can't be true, as a person reads it: its line, the one that it doesn't go with, and which condition it fails.
 pub fn forged_text(alloc: Global, number: usize, forged: &Forged<'_>) -> Result<String, AllocError>
     ensures { IfOk result (λ text. (lines : List ℕ) × (string_bytes text ≡ entry_text number ++ (lines ++ reason_text forged.now.cause))) }
 {

@@ -1,4 +1,4 @@
-//! What is told of a broken history, from outside of the program.
+//! What explains a broken history, from outside of the program.
 use crate::explained::{Explained, explain};
 use crate::located::locate;
 use crate::refused::explain_forged;
@@ -84,7 +84,7 @@ fn a_breach_is_told_by_its_lines(rt: HostRuntime) {
     assert!(rt; told.as_str() == TOLD);
 }
 
-// What is told of the first entry of the text that can't be true.
+// What explains the first entry of the text that can't be true.
 fn told_of(rt: &impl Abort, alloc: Global, text: &str) -> String {
     let file = read(rt, alloc, text);
     let dumps = lend_dumps(&file.dumps);

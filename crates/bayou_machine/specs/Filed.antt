@@ -29,7 +29,7 @@ pub record IsEntryOf (who place : ℕ) (told : Told) (what : What) (entry : Entr
   pub server_is : entry.server.index ≡ place
   pub what_is : entry.what ≡ what
 
--- Just the entry of what the session was told is filed, or nothing where it was told nothing.
+-- Just the entry of what the session heard is filed, or nothing where it heard nothing.
 abbrev pub Files : (who place : ℕ) → Told → Option What → List Entry → Type 0
 Files who place told None filed = filed ≡ []
 Files who place told (Some what) filed = (entry : Entry) × (filed ≡ entry ∷ []) × IsEntryOf who place told what entry

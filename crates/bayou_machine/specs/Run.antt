@@ -115,7 +115,7 @@ asks_book survey = true
 asks_book book = true
 asks_book _ = false
 
--- what is asked for may take memory to be told, and has no answer for the want of it
+-- what is asked for may take memory to answer, and has no answer for the want of it
 abbrev pub TakesMemory : Said → Type 0
 TakesMemory (servers count limit) = ⊥
 TakesMemory (session who asks) = ⊥
@@ -149,7 +149,7 @@ pub record IsNewRun (plan : Plan) (state : ScriptState) : Type 0 where
   pub capacity : state.book.capacity ≡ capacity_for plan.commands
   pub none_filed : state.book.entries ≡ []
 
--- The session tries an operation at the server, and what it was told is filed, and nothing else.
+-- The session tries an operation at the server, and what it heard is filed, and nothing else.
 pub record Tries (old : ScriptState) (who place : ℕ) (said : Said) (answer : Answer) (new : ScriptState) : Type 0 where
   pub step : ScriptStep old.standing said answer new.standing
   pub name : SessionId
@@ -190,7 +190,7 @@ pub record LendsFile (file : AuditFile) (lent : Lent) : Type 0 where
   pub entries : lent.entries.now ≡ file.entries.items
   pub dumps : lent_lists lent.dumps.items ≡ lists_of file.dumps.items
 
--- From old, what a line says may get this answer and leave new: what sessions are told is filed, and the totals, the verdict, the survey
+-- From old, what a line says may get this answer and leave new: what sessions hear is filed, and the totals, the verdict, the survey
 -- and the book are those of what was filed so far.
 abbrev pub Turn : ScriptState → Said → Answer → ScriptState → Type 0
 Turn old totals answer new = (new ≡ old) × (answer ≡ Counted (totals_filed old.book.entries))

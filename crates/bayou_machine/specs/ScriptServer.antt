@@ -1,4 +1,4 @@
--- What a server of a script makes of each command, and what a session is told of it.
+-- What a server of a script makes of each command, and what a session hears of it.
 use Rattle.std.specs.Prelude.{◌≡◌, ◌≢◌, ℕ, ◌+◌, ◌<◌, ◌⊎◌, List, [], Result, Ok, Err, length, Bool, true, false, Some}
 use Rattle.bayou_base.specs.declared.answer.Seen.{Seen}
 use Rattle.bayou_base.specs.declared.limits.TheConstants.{MAX_PLACES}
@@ -72,7 +72,7 @@ abbrev pub read_answer : SessionId → List ℕ → Result Seen Behind → Answe
 read_answer who key (Ok seen) = Read who key seen
 read_answer who key (Err behind) = Refused who (BehindNeed behind.vector)
 
--- what is told of a reply: all of it, or that none came, where it is dropped
+-- what is heard of a reply: all of it, or that none came, where it is dropped
 abbrev pub reply_of : (drops : Bool) → SessionId → Answer → Answer
 reply_of true who answer = Lost who
 reply_of false who answer = answer

@@ -21,7 +21,7 @@ pub record Asked : Type 0 where
 abbrev pub asked_of : Asking → Asked
 asked_of asking = record { server = asking.server.index; program = asking.program }
 
--- A session: what it was told, the Write that it may ask again, if there is one, and whether the reply to the operation that it tries next
+-- A session: what it heard, the Write that it may ask again, if there is one, and whether the reply to the operation that it tries next
 -- is dropped.
 pub record Seat : Type 0 where
   pub told : Told
@@ -46,14 +46,14 @@ asks_once_more seat = record { told = asks_again seat.told; asked = seat.asked; 
 abbrev pub begins_read : Seat → Seat
 begins_read seat = record { told = one_place_more seat.told; asked = None; drops = false }
 
--- ---- what it is told at that place: nothing of a refusal, and nothing where the reply is dropped
+-- ---- what it hears at that place: nothing of a refusal, and nothing where the reply is dropped
 
 -- what the Write was given, be it made now or known from before
 abbrev pub given_of : Written → Accepted
 given_of (New accepted) = accepted
 given_of (Known accepted) = accepted
 
--- of its Write, which it asks no more once it was told that it was accepted
+-- of its Write, which it asks no more after it heard that it was accepted
 abbrev pub told_of_write : (drops : Bool) → Seat → Result Written WriteFault → Seat
 told_of_write true seat reply = seat
 told_of_write false seat (Ok written) = record seat { told = after_write seat.told (given_of written); asked = None }

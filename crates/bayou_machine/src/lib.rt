@@ -4,7 +4,7 @@
 //! where each of them stands, and the sessions, each with what it may ask again), and its book (`Filings`: how many entries it may have, and what was filed). A server
 //! is a [`ScriptServer`], which serves on a device in memory, up or down, or is stopped. [`Machine::answer`] answers one command, as a relation
 //! (`Turn`) between the state before, the `Answer` (`bayou_answers`) and the state after: what the command names changes as the servers and
-//! sessions below promise, and nothing else, and of an operation just the entry of what its session was told is filed, after what was. A
+//! sessions below promise, and nothing else, and of an operation just the entry of what its session heard is filed, after what was. A
 //! `ScriptRun` is one command after another, from servers that were just started on empty devices.
 //!
 //! A caller owes that each command stands where it may: its servers are some of the machine's, and the book has room left for an operation,

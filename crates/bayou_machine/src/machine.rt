@@ -1,4 +1,4 @@
-//! The machine of a script: a command enters it, and what a session is told is filed in its book.
+//! The machine of a script: a command enters it, and what a session hears is filed in its book.
 ghost use Rattle.std.specs.Prelude.{◌≡◌, ◌≢◌, ◌<◌, [], IfErr, IfOk, IsTrue, MatchResult, None, length};
 ghost use Rattle.bayou_answers.specs.declared.answer.Answer.TheVariants.{Booked};
 ghost use Rattle.bayou_audit.specs.Blanks.{AreBlanksOf, named};
@@ -53,7 +53,7 @@ impl<K: Ledgers> Machine<K> {
         Ok(Machine { parties, book })
     }
 
-    /// The session tries an operation; what it is told is filed.
+    /// The session tries an operation; what it hears is filed.
     fn operate(&mut self, alloc: Global, operation: Operation) -> Answer
         requires served { IsTrue (is_served self.old.standing.count (operation_said operation)) }
         requires room { length self.old.book.entries < self.old.book.capacity }
@@ -109,7 +109,7 @@ impl<K: Ledgers> Machine<K> {
         surveyed(alloc, self.parties.count(), self.book.filed(), &dumps)
     }
 
-    /// What is asked. Where much is told, memory may be wanted for which there is no answer.
+    /// What is asked. A long answer may want memory for which there is no answer.
     #[tactic(auto, unfolding(bayou_script::specs::Script::are_servers))]
     fn ask(&self, alloc: Global, question: Question) -> Result<Answer, AllocError>
         requires served { IsTrue (is_served self.now.standing.count (question_said question)) }
@@ -124,7 +124,7 @@ impl<K: Ledgers> Machine<K> {
         }
     }
 
-    /// What the command is answered, and files what sessions are told. Only where much is told may memory be wanted for which there is
+    /// What the command is answered, and files what sessions hear. Only a long answer may want memory for which there is
     /// no answer.
     #[tactic(auto, unfolding(bayou_script::specs::Script::are_servers))]
     pub fn answer(&mut self, alloc: Global, command: Command) -> Result<Answer, AllocError>

@@ -77,7 +77,7 @@ impl Parties {
         })
     }
 
-    /// The session of this name, as what it was told. One that wasn't opened asks for nothing; no script uses it.
+    /// The session of this name, as what it heard. One that wasn't opened asks for nothing; no script uses it.
     pub(crate) fn session(&self, who: SessionId) -> Session
         ensures { result ≡ (seat_of self.now who).told }
     {

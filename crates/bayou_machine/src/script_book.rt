@@ -88,7 +88,7 @@ impl<K: Ledgers> ScriptBook<K> {
         self.book.entries(alloc)
     }
 
-    /// Files what this session, as it was before, is told of an operation that it tried at the server; nothing where no reply reached it.
+    /// Files what this session, as it was before, hears of an operation that it tried at the server; nothing where no reply reached it.
     pub(crate) fn file(
         &mut self,
         who: SessionId,

@@ -62,7 +62,7 @@ impl Seat {
         }
     }
 
-    /// What it was told.
+    /// What it heard.
     pub(crate) fn session(&self) -> Session
         ensures { result ≡ self.now.told }
     {

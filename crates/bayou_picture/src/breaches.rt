@@ -36,10 +36,10 @@ const RINGS: usize = 4;
 /// The radius of a number's disc.
 const RADIUS: u32 = 8;
 
-/// How high what is told of a breach is.
+/// How high the text of a breach is.
 pub(crate) const TOLD: u32 = 40;
 
-/// A breach, and how it is told apart.
+/// A breach, and what marks it off from the others.
 #[derive(Clone, Copy)]
 struct Numbered<'a> {
     marked: Marked<'a>,
@@ -185,7 +185,7 @@ fn draw_rings(
     }
 }
 
-// Draws what is told of a breach.
+// Draws the text of a breach.
 fn draw_told(
     alloc: Global,
     canvas: &mut Canvas,

@@ -21,7 +21,7 @@ const COLUMN: u32 = 46;
 /// The height of a line with nothing told of it.
 const ROW: u32 = 58;
 
-/// The height of what is told of one breach beside a line.
+/// The height of one breach's text beside a line.
 pub(crate) const LANE: u32 = 18;
 
 /// Between sessions and servers.
@@ -45,7 +45,7 @@ pub(crate) struct Rows {
     pub(crate) servers: [Option<u32>; SERVERS],
     /// Where the servers begin.
     pub(crate) servers_from: u32,
-    /// Where what is told of the breaches begins.
+    /// Where the text of the breaches begins.
     pub(crate) told_from: u32,
 }
 

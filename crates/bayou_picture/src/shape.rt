@@ -72,7 +72,7 @@ pub enum Kind {
     Gap,
     /// The number of a breach.
     Number,
-    /// What is told of a breach.
+    /// The text of a breach.
     Told,
 }
 

@@ -5,7 +5,7 @@ use bayou_explain::{Located, Shown};
 use bayou_judge::{BadEvidence, Breach};
 use bayou_text::AuditLine;
 
-// The entry that the breach's later operation is told by.
+// The entry of the breach's later operation.
 fn later_of<'l>(lines: &'l [Located<'_>], breach: &Breach) -> Option<&'l Entry> {
     for line in lines {
         if line.is_operation(breach.session, breach.second) {

@@ -1,4 +1,4 @@
--- What a line of a script is told by: events of the machine of all servers (Terry et al. 1994, 1995), and their replies.
+-- What a line of a script stands for: events of the machine of all servers (Terry et al. 1994, 1995), and their replies.
 use Rattle.std.specs.Prelude.{◌≡◌, ℕ, zero, suc, ◌+◌, ◌==◌, Bool, true, false, IsTrue, List, [], ◌∷◌, ◌++◌, Option, None, Some, Result, Ok, Err, length, map}
 use Rattle.std.specs.List.{list_any}
 use Rattle.bayou_base.specs.declared.answer.Seen.{Seen}

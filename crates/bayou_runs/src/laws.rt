@@ -19,7 +19,7 @@ use bayou_world::laws::{
     the_steps_of_servers_are_rows,
 };
 
-/// What a script is answered in which no server is restarted whose device lost bytes before is told by a run of the machine of all servers. So each session
+/// What a script is answered in which no server is restarted whose device lost bytes before comes of a run of the machine of all servers. So each session
 /// had what it asked for, and each verdict and each survey that the script asks for says so.
 pub fn a_script_is_a_run()
     ensures { (lines : List (List ℕ)) (plan : Plan) (number : ℕ) (answers : List Answer) (first last : ScriptState) → IsScript lines plan → IsInRange plan → IsNewRun plan first

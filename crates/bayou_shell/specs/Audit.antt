@@ -45,7 +45,7 @@ pub data IsAuditPart (evidence : Evidence) (text : List ℕ) : Type 0 where
   of_both : (verdict : Result Verdict BadEvidence) (rest missing : List ℕ) → IsVerdictOf evidence verdict → IsBehind evidence verdict rest
       → verdict_text verdict ++ rest ≡ text ++ missing → IsAuditPart evidence text
 
--- What is read and written of an input. An audit file is judged, or is told a fault with a part of the lines printed; another input is
+-- What is read and written of an input. An audit file is judged, or a fault is reported with a part of the lines printed; another input is
 -- refused for its least line with a fault, with nothing printed. Want of memory and of the input may come before anything is printed.
 abbrev pub AuditsAs : List ℕ → Result Ended RunFault → Option (List ℕ) → Option (List ℕ) → Type 0
 AuditsAs input (Ok ended) old new = (evidence : Evidence) × IsAuditFile (lines_of input) evidence × (text : List ℕ) × IsAudit evidence ended text × Appends old new text

@@ -22,7 +22,7 @@ use Rattle.bayou_shell.specs.declared.explained.Beside.{Beside}
 use Rattle.bayou_shell.specs.declared.explained.Explaining.{Explaining}
 use Rattle.bayou_streams.specs.Account.{Account, TakesBytes}
 
--- what is to be audited, and what is told of it, is what the words say
+-- what is to be audited, and what is printed of it, is what the words say
 pub record IsExplainingOf (asked : Audit) (explaining : Explaining) : Type 0 where
   pub file : asked.file ≡ input_kept (option_map (λ name. string_bytes name) explaining.file)
   pub is_explained : asked.is_explained ≡ explaining.is_explained
@@ -33,7 +33,7 @@ pub record IsExplainingOf (asked : Audit) (explaining : Explaining) : Type 0 whe
 abbrev pub IsSurveyedOf : Evidence → Result (Vec Surveyed) BadEvidence → Type 0
 IsSurveyedOf evidence survey = SurveyAnswer evidence.count evidence.entries evidence.dumps survey
 
--- what is told of a survey begins with each of its breaches; of a refused verdict nothing is said here
+-- what is printed of a survey begins with each of its breaches; of a refused verdict nothing is said here
 abbrev pub IsToldOf : Result (Vec Surveyed) BadEvidence → List ℕ → Type 0
 IsToldOf (Ok survey) text = (breaches rest : List ℕ) × TellEach (breaches_of survey.items) breaches × (text ≡ breaches ++ rest)
 IsToldOf (Err bad) text = Unit {0}
@@ -67,12 +67,12 @@ abbrev pub SaysAudit : (is_json : Bool) → Evidence → Ended → List ℕ → 
 SaysAudit true evidence ended text = IsJsonAudit evidence ended text
 SaysAudit false evidence ended text = IsAudit evidence ended text
 
--- a picture in which just the breaches that were told are drawn, where one is asked for, and nothing else
+-- a picture in which just the breaches of the survey are drawn, where one is asked for, and nothing else
 abbrev pub IsDrawnBeside : Bool → Result (Vec Surveyed) BadEvidence → Option (Vec ℕ) → Type 0
 IsDrawnBeside true survey picture = MatchOption picture ⊥ (λ text. Pictures (breaches_found survey) text.items)
 IsDrawnBeside false survey picture = picture ≡ None
 
--- The text is an audit file: verdict and survey are printed as an audit prints them, or as JSON, and then what they are told by, where that is asked for. The status is the
+-- The text is an audit file: verdict and survey are printed as an audit prints them, or as JSON, and then what explains them, where that is asked for. The status is the
 -- audit's, and the picture is of its survey.
 pub record ExplainsAs (beside : Beside) (text : List ℕ) (made : Outcome) (old new : Account) : Type 0 where
   pub evidence : Evidence

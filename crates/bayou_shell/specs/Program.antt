@@ -52,14 +52,14 @@ text_status (Ok done) = 0
 text_status (Err fault) = status_of fault
 
 -- Words that ask for a text get it on the output, and the status tells whether it was written; of words that are a mistake, and where
--- memory runs out, nothing goes there. What is at fault is told beside it.
+-- memory runs out, nothing goes there. What is at fault is reported beside it.
 pub data TellsOf (words : List (List ℕ)) (status : ℕ) (old new : Option (List ℕ)) (told telling : Account) (has_failed : Bool) : Type 0 where
   asked : AskForText words → (text : List ℕ) (ended : Result (Unit {0}) RunFault) → WritesText text ended old new → status ≡ text_status ended
       → TellsEnd ended told telling has_failed → TellsOf words status old new told telling has_failed
   mistaken : AreMistaken words → status ≡ refused_status → Keeps old new → (text : List ℕ) → IsPut text told telling has_failed → TellsOf words status old new told telling has_failed
   no_memory : status ≡ status_of Memory → Keeps old new → TellsFault told telling has_failed → TellsOf words status old new told telling has_failed
 
--- what a run, or an audit, that ended so leaves: it is done, and the status is that of its end; or its fault is told
+-- what a run, or an audit, that ended so leaves: it is done, and the status is that of its end; or its fault is reported
 abbrev pub done_of : Result Ended RunFault → Result Errand RunFault
 done_of (Ok ended) = Ok (Done (ended_status ended))
 done_of (Err fault) = Err fault
@@ -218,12 +218,12 @@ Works (a_web wanted) input came old new = ShowsAs wanted came old new
 Works (a_check wanted) input came old new = ChecksTextAs wanted came old new
 Works (an_explanation wanted) input came old new = ExplainsTextAs wanted came old new
 
--- what is left to be done then: nothing where a fault was told
+-- what is left to be done then: nothing where a fault was reported
 abbrev pub errand_of : Result Errand RunFault → Errand
 errand_of (Ok errand) = errand
 errand_of (Err fault) = Done (status_of fault)
 
--- no fault was told
+-- no fault was reported
 abbrev pub IsWell : Errand → Type 0
 IsWell (Done status) = status < 2
 IsWell (Net folder script) = Unit {0}

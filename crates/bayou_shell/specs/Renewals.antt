@@ -42,7 +42,7 @@ renewed_text plan renewed digits =
     codes "renewed " ++ (decimal plan.id.index ++ (codes " at " ++ (counts_text plan.servers plan.wish.at ++ (codes " keys " ++ (decimal renewed.keys
     ++ (codes " writes " ++ (decimal (length renewed.server.core.held) ++ (codes " digest " ++ (digits ++ codes "\n")))))))))
 
--- what is told of a server that holds this in the place of what it must hold
+-- the report of a server that holds this in the place of what it must hold
 abbrev pub elsewhere_text : Plan → (held : List ℕ) → List ℕ
 elsewhere_text plan held = codes "it holds " ++ (counts_text plan.servers held ++ (codes ", and not " ++ (counts_text plan.servers plan.wish.at ++ codes " as --at says")))
 

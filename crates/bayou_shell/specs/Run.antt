@@ -41,24 +41,24 @@ pub record PrintsPart (plan : Plan) (text : List ℕ) : Type 0 where
   pub missing : List ℕ
   pub lines : answers_text plan.count answers ≡ text ++ missing
 
--- What the first lines are answered is told by a run of the machine of all servers and sessions (Terry et al. 1994, 1995), where none of them restarts a
+-- What the first lines are answered comes of a run of the machine of all servers and sessions (Terry et al. 1994, 1995), where none of them restarts a
 -- server whose device lost bytes before: so each session had what it asked for.
 abbrev pub AreTold : Plan → (first : ScriptState) → List Said → List Answer → Type 0
 AreTold plan first commands answers = (number : ℕ) → RestartsWhole (take number commands)
     → (mid : ScriptState) × ScriptRun first (take number commands) (take number answers) mid × ToldByRun plan (take number commands) (take number answers) mid
 
--- the text is what is printed for answers that are told so, and where the whole script restarts no such server, each verdict among them is clean
+-- the text is what is printed for answers that come so, and where the whole script restarts no such server, each verdict among them is clean
 pub record PrintsTold (plan : Plan) (ended : Ended) (text : List ℕ) : Type 0 where
   pub prints : Prints plan ended text
   pub told : AreTold plan prints.first plan.commands prints.answers
   pub clean : RestartsWhole plan.commands → ended ≡ Clean
 
--- the text is a front of what is printed for answers that are told so
+-- the text is a front of what is printed for answers that come so
 pub record PrintsPartTold (plan : Plan) (text : List ℕ) : Type 0 where
   pub prints : PrintsPart plan text
   pub told : AreTold plan prints.first (take prints.number plan.commands) prints.answers
 
--- What is read and written from an input. A script is run whole, or is told a fault of a run with a part of its lines
+-- What is read and written from an input. A script is run whole, or a fault is reported of a run with a part of its lines
 -- printed; another input is refused for its least line with a fault, with nothing printed. Want of memory and of the
 -- input may come before anything is printed, and so may a server whose start was refused for something else.
 abbrev pub RunsAs : List ℕ → Result Ended RunFault → Option (List ℕ) → Option (List ℕ) → Type 0

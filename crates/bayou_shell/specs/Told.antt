@@ -1,4 +1,4 @@
--- What is told of a server that lives, or of a session at servers, and how it ends: this project's own.
+-- What a person sees of a server that lives, or of a session at servers, and how it ends: this project's own.
 use Rattle.std.specs.Prelude.{ℕ, List, ◌++◌, Option, None, Some, codes}
 use Rattle.bayou_connect.specs.declared.connecting.Ended.{Ended}
 use Rattle.bayou_connect.specs.declared.connecting.Ended.TheVariants.{Served, Unserved, Refused}

@@ -29,7 +29,7 @@ pub(crate) const STANDARD: &str = "-";
 pub struct Checkup {
     /// `None` where it is the standard input.
     file: Option<String>,
-    /// Whether faults are told as lines of JSON.
+    /// Whether faults are printed as lines of JSON.
     is_json: bool,
 }
 
@@ -69,7 +69,7 @@ pub(crate) fn read_whole<R: Read>(
     Err(RunFault::Input)
 }
 
-// Prints what is told of a line with a fault.
+// Prints the report of a line with a fault.
 fn print_told<W: Write>(
     alloc: Global,
     file: &str,
@@ -85,7 +85,7 @@ fn print_told<W: Write>(
     write_text(output, text.as_bytes())
 }
 
-// Prints what is told of a text.
+// Prints the report of a text.
 fn print_report<W: Write>(
     alloc: Global,
     file: &str,

@@ -34,10 +34,10 @@ pub struct Call {
     input: Option<String>,
 }
 
-/// What is told where the log can't be opened: nothing was asked then.
+/// The fault of a log that can't be opened: nothing was asked then.
 const LOG_NOT_OPENED: &str = "it can't be opened";
 
-/// What is told where a call of the log failed.
+/// The fault where a call of the log failed.
 const LOG_FAILED: &str = "a call of it failed: lines that were printed may be missing there";
 
 /// The exit status where some operation wasn't served.
@@ -69,7 +69,7 @@ fn name_of<'a>(input: Source<'a>) -> Option<&'a str>
     }
 }
 
-/// The plan, or why there is none; but want of memory is told at once.
+/// The plan, or why there is none; but want of memory is reported at once.
 pub(crate) fn kept_plan(
     plan: Result<Plan, PlanFault>,
 ) -> Result<Result<Plan, PlanFault>, AllocError>
@@ -83,7 +83,7 @@ pub(crate) fn kept_plan(
 }
 
 impl Call {
-    /// What the words ask for. What can't be done of them is told once it is to be done; want of memory alone is told at once.
+    /// What the words ask for. What can't be done of them is reported when it is to be done; want of memory alone at once.
     pub fn of(alloc: Global, connecting: &Connecting<'_>) -> Result<Self, AllocError>
         ensures asked { IfOk result (λ call. MatchResult call.plan (IsPlanOfPlaces (connection_seen connecting.now)) (RefusesConnection (connection_seen connecting.now))) }
         ensures known { IfOk result (λ call. IfErr call.plan (λ fault. fault ≢ OutOfMemory)) }
@@ -229,7 +229,7 @@ where
     Logging { ended, has_failed }
 }
 
-// The exit status of what was done, once its fault is told, if it has one, and that of its log.
+// The exit status of what was done, after its fault, if it has one, and that of its log are reported.
 fn status_told<E: Write>(
     alloc: Global,
     names: Names<'_>,

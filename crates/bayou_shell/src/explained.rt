@@ -38,12 +38,12 @@ use std::{fs, io};
 /// A picture that would go over the file that is audited.
 const OVER_ITSELF: &str = "bayou: --picture names the file that is audited\n";
 
-/// What is told of an audit beside its verdict and its survey.
+/// What an audit prints beside its verdict and its survey.
 #[derive(Clone, Copy)]
 pub struct Beside {
     /// Whether it is explained.
     pub is_explained: bool,
-    /// Whether all is told as lines of JSON.
+    /// Whether all is printed as lines of JSON.
     pub is_json: bool,
     /// Whether a picture is drawn.
     pub is_drawn: bool,
@@ -56,7 +56,7 @@ pub struct Outcome {
     pub picture: Option<Vec<u8>>,
 }
 
-/// What is to be audited, and what is told of it.
+/// What is to be audited, and what is printed of it.
 #[derive(Drop)]
 pub struct Explaining {
     /// `None` where it is the standard input.
@@ -102,7 +102,7 @@ impl Explaining {
         })
     }
 
-    // What is told beside the verdict and the survey.
+    // What is printed beside the verdict and the survey.
     fn beside(&self) -> Beside
         ensures said { (result.is_explained ≡ self.now.is_explained) × (result.is_json ≡ self.now.is_json) }
         ensures drawn { result.is_drawn ≡ is_some self.now.picture }
@@ -115,7 +115,7 @@ impl Explaining {
     }
 }
 
-// What is told of a survey, or of why there is none.
+// What is printed of a survey, or of why there is none.
 fn told_of(
     alloc: Global,
     lines: &[Located<'_>],
@@ -227,7 +227,7 @@ fn drawn_beside(
     Ok(Some(picture_text(alloc, name, count, lines, surveyed)?))
 }
 
-// What is told of the evidence beside its verdict and its survey, and its picture.
+// What is printed of the evidence beside its verdict and its survey, and its picture.
 fn explain_file(
     alloc: Global,
     name: &str,
@@ -306,7 +306,7 @@ fn print_audit<W: Write>(
     audit(alloc, file, output, Waiting::new(alloc)?)
 }
 
-/// Reads an audit file to its end, prints the verdict and the survey and what they are told by, and gives the exit status and the picture, as it is asked for. `name` is
+/// Reads an audit file to its end, prints the verdict and the survey and what explains them, and gives the exit status and the picture, as it is asked for. `name` is
 /// the file's, as the picture shows it.
 pub fn explain_input<R: Read, W: Write>(
     alloc: Global,

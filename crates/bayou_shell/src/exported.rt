@@ -51,7 +51,7 @@ const REFUSED: u8 = 2;
 /// The exit status of every other fault.
 const FAILED: u8 = 3;
 
-// Whom the words ask, or why they name nobody who can be asked; want of memory is told at once.
+// Whom the words ask, or why they name nobody who can be asked; want of memory is reported at once.
 fn places_in(
     alloc: Global,
     exporting: &Exporting<'_>,
@@ -113,7 +113,7 @@ fn path_in(alloc: Global, exporting: &Exporting<'_>) -> Result<String, AllocErro
 }
 
 impl Extract {
-    /// What the words ask for. What can't be done of them is told once it is to be done; want of memory alone is told at once.
+    /// What the words ask for. What can't be done of them is reported when it is to be done; want of memory alone at once.
     pub fn of(alloc: Global, exporting: &Exporting<'_>) -> Result<Self, AllocError>
         ensures plan { IfOk result (λ extract. MatchResult extract.plan (IsWanted (export_seen exporting.now)) (RefusesExport (export_seen exporting.now))) }
         ensures path { IfOk result (λ extract. string_bytes extract.path ≡ journal_name (folder_named (export_seen exporting.now)) (number_named (export_seen exporting.now))) }
@@ -143,7 +143,7 @@ fn journal_line(alloc: Global, path: &str, fault: ReadingFault) -> Result<String
     told_line(alloc, file, cause.as_str())
 }
 
-// The rows of a journal; or what status the call ends with, once the fault is told.
+// The rows of a journal; or what status the call ends with, after it reports the fault.
 fn read_rows<E: Write, T: fs::Files<File = File>>(
     rt: &T,
     alloc: Global,
@@ -174,7 +174,7 @@ fn export_of(taken: Taken) -> Export
     }
 }
 
-// The rows of the first server that tells them all; or what status the call ends with, once it is told why.
+// The rows of the first server that gives them all; or what status the call ends with, after it reports why.
 fn ask_rows<E, T>(
     rt: &T,
     alloc: Global,

@@ -47,7 +47,7 @@ const REFUSED: u8 = 2;
 /// The exit status of every other fault.
 const FAILED: u8 = 3;
 
-// Whom the words name, or why nobody can be asked; want of memory is told at once.
+// Whom the words name, or why nobody can be asked; want of memory is reported at once.
 fn places_in(
     alloc: Global,
     importing: &Importing<'_>,
@@ -80,7 +80,7 @@ fn state_in(alloc: Global, importing: &Importing<'_>) -> Result<String, AllocErr
 }
 
 impl Intake {
-    /// What the words ask for. What can't be done of them is told once it is to be done; want of memory alone is told at once.
+    /// What the words ask for. What can't be done of them is reported when it is to be done; want of memory alone at once.
     pub fn of(alloc: Global, importing: &Importing<'_>) -> Result<Self, AllocError>
         ensures places { IfOk result (λ intake. MatchResult intake.places (IsPlanOfPlaces (places_met (import_seen importing.now))) (RefusesConnection (places_met (import_seen importing.now)))) }
         ensures file { IfOk result (λ intake. string_bytes intake.file ≡ (import_seen importing.now).file) }

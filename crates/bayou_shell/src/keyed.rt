@@ -30,7 +30,7 @@ const REFUSED: u8 = 2;
 const FAILED: u8 = 3;
 
 impl NewKey {
-    /// What the words ask for. A name that can't be done is told once the key is to be made; want of memory alone is told at once.
+    /// What the words ask for. A name that can't be used is reported when the key is to be made; want of memory alone at once.
     pub fn of(alloc: Global, name: &str, file: &str) -> Result<Self, AllocError>
         ensures path { IfOk result (λ wish. string_bytes wish.path ≡ file.now) }
         ensures name { IfOk result (λ wish. SaysName name.now wish.name) }
@@ -87,7 +87,7 @@ fn print_made<W: Write>(
     Ok(write_text(output, line.as_bytes()).is_ok())
 }
 
-/// Makes the key that was asked for, tells a fault, and gives the exit status. That it lasts before it is told no clause can say.
+/// Makes the key that was asked for, reports a fault, and gives the exit status. That it lasts before it is reported no clause can say.
 pub fn run_key<W, E, T>(
     rt: &T,
     alloc: Global,

@@ -10,7 +10,7 @@
 //!
 //! Streams come as `bayou_streams`' `CountedChannel` and `Output`, which alone call them: an input is read in at most
 //! [`MAX_TURNS`](bayou_base::MAX_TURNS) turns, and each printed line is written in at most as many, however lines are gathered
-//! into pieces. That the input or the output is at fault is told only where a call of it failed, or no turn was left.
+//! into pieces. The input or the output is called at fault only where a call of it failed, or no turn was left.
 //!
 //! A caller owes nothing. The theorem on what is printed is about readers and writers that tell their bytes, as those over
 //! memory do; of others only safety and the turns are promised. It isn't promised that memory suffices, or that a stream

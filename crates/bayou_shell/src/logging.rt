@@ -1,4 +1,4 @@
-//! A file in which each line that a person was told stands after its time.
+//! A file in which each line that a person was shown stands after its time.
 ghost use Rattle.std.specs.Prelude.{◌≡◌, None};
 
 use bayou_streams::Output;

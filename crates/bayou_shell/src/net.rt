@@ -45,7 +45,7 @@ pub(crate) fn read_net<R: Read>(
     Ok(Errand::Net { folder, script })
 }
 
-/// Runs a script over sockets, tells a fault, and gives the exit status. Before the fault the damage of a journal is told, where there is some; and
+/// Runs a script over sockets, reports a fault, and gives the exit status. The damage of a journal, where there is some, is reported before the fault; and
 /// before all else that the last entry of a journal was dropped.
 pub fn run_net<T, W, E, D>(
     rt: &T,

@@ -35,7 +35,7 @@ const REFUSED: u8 = 2;
 /// The exit status of every other fault.
 const FAILED: u8 = 3;
 
-// The plan, or why there is none; but want of memory is told at once.
+// The plan, or why there is none; but want of memory is reported at once.
 fn kept_plan(plan: Result<Plan, PlanFault>) -> Result<Result<Plan, PlanFault>, AllocError>
     ensures same { IfOk result (λ kept. kept ≡ plan) }
     ensures known { IfOk result (λ kept. IfErr kept (λ fault. fault ≢ OutOfMemory)) }
@@ -67,7 +67,7 @@ fn plan_in(alloc: Global, renewing: &Renewing<'_>) -> Result<Result<Plan, PlanFa
 }
 
 impl Renewal {
-    /// What the words ask for. What can't be done of them is told once it is to be done; want of memory alone is told at once.
+    /// What the words ask for. What can't be done of them is reported when it is to be done; want of memory alone at once.
     pub fn of(alloc: Global, renewing: &Renewing<'_>) -> Result<Self, AllocError>
         ensures old { IfOk result (λ renewal. string_bytes renewal.old ≡ journal_name renewing.now.folder.now renewing.now.id) }
         ensures new { IfOk result (λ renewal. string_bytes renewal.new ≡ journal_name renewing.now.to.now renewing.now.id) }
@@ -82,7 +82,7 @@ impl Renewal {
     }
 }
 
-// What is told of a server that holds this in the place of what it must hold.
+// The report of a server that holds this in the place of what it must hold.
 fn elsewhere_cause(alloc: Global, plan: &Plan, held: &Vector) -> Result<String, AllocError>
     ensures { IfOk result (λ cause. string_bytes cause ≡ elsewhere_text plan.now held.now) }
 {
@@ -98,7 +98,7 @@ fn elsewhere_cause(alloc: Global, plan: &Plan, held: &Vector) -> Result<String, 
     format!(in alloc; "it holds {holds}, and not {wanted} as --at says")
 }
 
-// What is told of a database that takes so many Writes.
+// The report of a database that takes so many Writes.
 fn too_many_cause(alloc: Global, plan: &Plan, number: usize) -> Result<String, AllocError>
     ensures { IfOk result (λ cause. string_bytes cause ≡ too_many_text plan.now number) }
 {

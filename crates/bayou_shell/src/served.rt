@@ -36,7 +36,7 @@ pub struct Service {
     plan: Result<Plan, PlanFault>,
 }
 
-/// What is told as a server begins that strangers may reach, and that nothing keeps out.
+/// The warning as a server begins that strangers may reach, and that nothing keeps out.
 const UNGUARDED: &str =
     "bayou: --anyone without --key: WHOEVER REACHES THIS PORT CAN READ, WRITE AND FILL THE STORE\n";
 
@@ -46,7 +46,7 @@ const REFUSED: u8 = 2;
 /// The exit status of every other fault.
 const FAILED: u8 = 3;
 
-// The plan, or why there is none; but want of memory is told at once.
+// The plan, or why there is none; but want of memory is reported at once.
 fn kept_plan(plan: Result<Plan, PlanFault>) -> Result<Result<Plan, PlanFault>, AllocError>
     ensures same { IfOk result (λ kept. kept ≡ plan) }
     ensures known { IfOk result (λ kept. IfErr kept (λ fault. fault ≢ OutOfMemory)) }
@@ -88,7 +88,7 @@ fn plan_in(alloc: Global, serving: &Serving<'_>) -> Result<Result<Plan, PlanFaul
 }
 
 impl Service {
-    /// What the words ask for. What can't be done of them is told once it is to be served; want of memory alone is told at once.
+    /// What the words ask for. What can't be done of them is reported when it is to be served; want of memory alone at once.
     pub fn of(alloc: Global, serving: &Serving<'_>) -> Result<Self, AllocError>
         ensures path { IfOk result (λ service. string_bytes service.path ≡ journal_name serving.now.folder.now serving.now.id) }
         ensures label { IfOk result (λ service. string_bytes service.label ≡ label_name serving.now.folder.now serving.now.id) }

@@ -38,7 +38,7 @@ const REFUSED: u8 = 2;
 /// The exit status of every other fault.
 const FAILED: u8 = 3;
 
-// Whom the words name, or why nobody can be asked; want of memory is told at once.
+// Whom the words name, or why nobody can be asked; want of memory is reported at once.
 fn plan_in(alloc: Global, showing: &Showing<'_>) -> Result<Result<Plan, PlanFault>, AllocError>
     ensures { IfOk result (λ plan. MatchResult plan (IsPlanOfPlaces (places_shown (web_seen showing.now))) (RefusesConnection (places_shown (web_seen showing.now)))) }
 {
@@ -54,7 +54,7 @@ fn plan_in(alloc: Global, showing: &Showing<'_>) -> Result<Result<Plan, PlanFaul
     Ok(plan)
 }
 
-// Where the page is served and for whom, or why the words say no such thing; want of memory is told at once.
+// Where the page is served and for whom, or why the words say no such thing; want of memory is reported at once.
 fn page_in(alloc: Global, showing: &Showing<'_>) -> Result<Result<Page, PageFault>, AllocError>
     ensures { IfOk result (λ page. IfOk page (IsNamed (web_seen showing.now).name)) }
 {
@@ -65,7 +65,7 @@ fn page_in(alloc: Global, showing: &Showing<'_>) -> Result<Result<Page, PageFaul
 }
 
 impl Window {
-    /// What the words ask for. What can't be done of them is told once it is to be done; want of memory alone is told at once.
+    /// What the words ask for. What can't be done of them is reported when it is to be done; want of memory alone at once.
     pub fn of(alloc: Global, showing: &Showing<'_>) -> Result<Self, AllocError>
         ensures plan { IfOk result (λ window. MatchResult window.plan (IsPlanOfPlaces (places_shown (web_seen showing.now))) (RefusesConnection (places_shown (web_seen showing.now)))) }
         ensures page { IfOk result (λ window. IfOk window.page (IsNamed (web_seen showing.now).name)) }

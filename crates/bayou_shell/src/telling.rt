@@ -1,4 +1,4 @@
-//! How faults are told, and the exit statuses.
+//! How faults are reported, and the exit statuses.
 ghost use Rattle.std.specs.Prelude.{◌≡◌, IfOk, option_map, string_bytes};
 ghost use Rattle.bayou_print.specs.Fault.{exit_status, status_of};
 ghost use Rattle.bayou_print.specs.Telling.{TellsEnd, TellsFault};
@@ -16,7 +16,7 @@ pub(crate) fn tell<E: Write>(errors: &mut Output<E>, fault: RunFault) -> u8
     ensures told { TellsFault (account E.contents errors.old) (account E.contents errors.new) errors.new.channel.write_failed }
     ensures paid { Pays (account E.contents errors.old) (account E.contents errors.new) 1 }
 {
-    // Where the fault can't be told, the status still tells it.
+    // Where the fault can't be written, the status still says it.
     let _ = write_text(errors, fault.to_line().as_bytes());
     fault.status()
 }
@@ -33,7 +33,7 @@ pub(crate) fn finish<E: Write>(errors: &mut Output<E>, ended: Result<Ended, RunF
     }
 }
 
-/// Tells the line that was made, or that memory ran out, as far as it can be told.
+/// Prints the line that was made, or that memory ran out, as far as it can be printed.
 pub(crate) fn tell_line<E: Write>(errors: &mut E, made: Result<String, AllocError>) {
     let _ = match made {
         Ok(line) => errors.write_all(line.as_bytes()),

@@ -338,6 +338,6 @@ load();
 </html>
 "#;
 
-/// Its script and its style may run, and nothing else: they are told by their SHA-256.
+/// Its script and its style may run, and nothing else: they are known by their SHA-256.
 pub const POLICY: &str =
     "default-src 'none'; script-src 'sha256-oioFfmJ/3HdLD1VTNVFzlZxhGgpcSHq9IhbyFyQ8i0M='; style-src 'sha256-t912tQ06t4SHlLENfWkYgNVX/FQOeWBnKx3QarC6Kmc='; connect-src 'self'; base-uri 'none'; form-action 'none'; frame-ancestors 'none'";

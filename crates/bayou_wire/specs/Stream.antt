@@ -72,7 +72,7 @@ FrameAnswer bytes (Err Trailing) =
 
 -- ---- streams
 
--- A frame's one spelling, behind a word of its own: what is said in it stays short, however much a frame says.
+-- A frame's one spelling, after a word of its own: what is said in it stays short, however much a frame says.
 unfoldable pub spelling : Frame → List ℕ
 spelling frame = frame_bytes frame
 

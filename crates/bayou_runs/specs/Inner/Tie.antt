@@ -65,7 +65,7 @@ asked_by_it asking = record { server = asking.server; program = asking.program }
 abbrev pub number_of_it : Asking → ℕ
 number_of_it asking = asking.number
 
--- what the script's session of this number was told and may ask again is what the machine's was and may
+-- what the script's session of this number heard and may ask again is what the machine's did and may
 pub record IsTelling (who : ℕ) (seat : Seat) (session : SessionSets) : Type 0 where
   pub id : seat.told.id.index ≡ who
   pub run : seat.told.run ≡ FIRST_RUN

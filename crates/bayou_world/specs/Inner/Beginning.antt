@@ -67,7 +67,7 @@ pub record IsLeft (servers : List WorldServer) (served_last : List Entry) (answe
   pub dumps : map (λ (dump : Vec Write). dump.items) history.dumps.items ≡ map held_by servers
   pub totals : history.totals ≡ booked
 
--- what events leave behind a machine
+-- what events leave of a machine
 pub record Leaves (first : Machine) (events : List Event) (history : RunHistory) : Type 0 where
   pub last : Machine
   pub run : Run first events history.replies.items last
