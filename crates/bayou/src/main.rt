@@ -8,11 +8,13 @@ mod more;
 mod progress;
 
 use bayou_connect::Input;
-use bayou_shell::{
-    Errand, Files, refuse_words, run_checked, run_connected, run_explained, run_exported,
-    run_imported, run_key, run_main, run_net, run_renewed, run_served, run_web, tell_device,
+use bayou_errands::{
+    run_connected, run_exported, run_imported, run_key, run_renewed, run_served, run_web,
+    tell_device,
 };
+use bayou_shell::{Errand, Files, refuse_words, run_main, run_net};
 use bayou_streams::{CountedChannel, Output};
+use bayou_tasks::{run_checked, run_explained};
 use more::{More, tell_more};
 use progress::{Counted, Screen, tell_progress};
 use std::alloc::Global;

@@ -1,12 +1,3 @@
 pub mod Asked
-pub mod Audited
-pub mod Checking
-pub mod Explains
-pub mod Lent
 pub mod Nets
-pub mod Planned
-pub mod Read
-pub mod Tied
-pub mod Runs
 pub mod Tasks
-pub mod Wanted

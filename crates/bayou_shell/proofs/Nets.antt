@@ -6,7 +6,7 @@ use Rattle.bayou_print.specs.declared.fault.RunFault.{RunFault}
 use Rattle.bayou_print.specs.declared.fault.RunFault.TheVariants.{Line, Memory, Device, Network, Input, Output}
 use Rattle.bayou_print.specs.Turns.{EndsWriting}
 use Rattle.bayou_shell.specs.declared.errand.Errand.{Errand}
-use Rattle.bayou_shell.specs.Inner.Faults.{IsReadFault}
+use Rattle.bayou_tasks.specs.Faults.{IsReadFault}
 use Rattle.bayou_shell.specs.Net.{NetsAs}
 
 -- where the input isn't taken as a script over sockets, nothing is left to be done

@@ -1,13 +1,2 @@
-pub mod Audit
-pub mod Checks
-pub mod Explanations
-pub mod Exports
-pub mod Imports
-pub mod Inner
 pub mod Net
-pub mod Pages
-pub mod Plans
 pub mod Program
-pub mod Renewals
-pub mod Run
-pub mod Told

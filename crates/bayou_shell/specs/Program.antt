@@ -17,16 +17,16 @@ use Rattle.bayou_print.specs.declared.fault.RunFault.TheVariants.{Input as Input
 use Rattle.bayou_print.specs.Fault.{ended_status, status_of}
 use Rattle.bayou_print.specs.Telling.{IsPut, TellsEnd, TellsFault}
 use Rattle.bayou_print.specs.Turns.{EndsReading}
-use Rattle.bayou_shell.specs.Audit.{AuditsAs}
-use Rattle.bayou_shell.specs.Checks.{IsCheckupOf}
-use Rattle.bayou_shell.specs.Explanations.{IsExplainingOf}
-use Rattle.bayou_shell.specs.Exports.{IsExtractOf}
-use Rattle.bayou_shell.specs.Imports.{IsIntakeOf}
-use Rattle.bayou_shell.specs.Pages.{IsWindowOf}
+use Rattle.bayou_tasks.specs.Audit.{AuditsAs}
+use Rattle.bayou_tasks.specs.Checks.{IsCheckupOf}
+use Rattle.bayou_tasks.specs.Explanations.{IsExplainingOf}
+use Rattle.bayou_errands.specs.Exports.{IsExtractOf}
+use Rattle.bayou_errands.specs.Imports.{IsIntakeOf}
+use Rattle.bayou_errands.specs.Pages.{IsWindowOf}
 use Rattle.bayou_shell.specs.Net.{NetsAs}
-use Rattle.bayou_shell.specs.Plans.{IsCallOf, IsKeyOf, IsServiceOf}
-use Rattle.bayou_shell.specs.Renewals.{IsRenewalOf}
-use Rattle.bayou_shell.specs.Run.{RunsAs}
+use Rattle.bayou_errands.specs.Plans.{IsCallOf, IsKeyOf, IsServiceOf}
+use Rattle.bayou_errands.specs.Renewals.{IsRenewalOf}
+use Rattle.bayou_tasks.specs.Run.{RunsAs}
 use Rattle.bayou_shell.specs.declared.errand.Errand.{Errand}
 use Rattle.bayou_shell.specs.declared.errand.Errand.TheVariants.{Check, Connect, Done, Explain, Export, Import, Key, Net, Renew, Serve, Web}
 use Rattle.bayou_streams.specs.Account.{Account}

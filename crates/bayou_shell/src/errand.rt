@@ -1,14 +1,14 @@
 //! What the words leave to be done.
-use crate::checked::Checkup;
-use crate::connected::Call;
-use crate::explained::Explaining;
-use crate::exported::Extract;
-use crate::imported::Intake;
-use crate::keyed::NewKey;
-use crate::renewed::Renewal;
-use crate::served::Service;
-use crate::shown::Window;
+use bayou_errands::connected::Call;
+use bayou_errands::exported::Extract;
+use bayou_errands::imported::Intake;
+use bayou_errands::keyed::NewKey;
+use bayou_errands::renewed::Renewal;
+use bayou_errands::served::Service;
+use bayou_errands::shown::Window;
 use bayou_script::NetworkScript;
+use bayou_tasks::checked::Checkup;
+use bayou_tasks::explained::Explaining;
 
 /// What is still to be done once the words were read, by who has threads and sockets.
 #[derive(Drop)]
