@@ -2,12 +2,16 @@
 use Rattle.std.proofs.Common.{◌≡◌, ◌∙◌, ◌++◌, ℕ, Bool, true, false, List, [], Option, None, Some, IfSome, Result, Ok, Err, ap, append_assoc, refl, subst, sym}
 use Rattle.std.proofs.lemmas.List.{append-nil}
 use Rattle.std.specs.Global.{Vec}
+use Rattle.bayou_base.specs.declared.entry.Entry.{Entry}
 use Rattle.bayou_explain.specs.Explained.{breaches_of, every_of}
 use Rattle.bayou_explain.specs.Explanation.{TellEach}
 use Rattle.bayou_explain.specs.Json.{TellEachAsJson}
+use Rattle.bayou_judge.specs.Answers.{BreachesAnswer, Refuses, SurveyAnswer}
 use Rattle.bayou_judge.specs.declared.breach.Breach.{Breach}
+use Rattle.bayou_judge.specs.declared.every.SessionBreaches.{SessionBreaches}
 use Rattle.bayou_judge.specs.declared.verdict.BadEvidence.{BadEvidence}
 use Rattle.bayou_judge.specs.declared.verdict.Surveyed.{Surveyed}
+use Rattle.bayou_lang.specs.declared.write.Write.{Write}
 use Rattle.bayou_picture.specs.Marks.{breaches_found}
 use Rattle.bayou_picture.specs.Picture.{Pictures}
 use Rattle.bayou_print.specs.declared.ended.Ended.{Ended}
@@ -107,3 +111,29 @@ drawn_if false survey text is pictures = cc
 pub drawn_not : (is_drawn : Bool) (survey : Result (Vec Surveyed) BadEvidence) → is_drawn ≡ false → IsDrawnBeside is_drawn survey None
 drawn_not true survey is = cc
 drawn_not false survey is = refl
+
+-- of the same entries and dumps the same is shown
+pub shows_of : (is_all : Bool) (count : ℕ) (entries others : List Entry) (dumps lists : List (List Write)) (shown : Result (Vec Breach) BadEvidence) → entries ≡ others → dumps ≡ lists
+    → Shows is_all count entries dumps shown → Shows is_all count others lists shown
+shows_of is_all count entries others dumps lists shown same are shows =
+    subst (λ (list : List Entry). Shows is_all count list lists shown) same (subst (λ (list : List (List Write)). Shows is_all count entries list shown) are shows)
+
+pub answers_of : (count : ℕ) (entries others : List Entry) (dumps lists : List (List Write)) (survey : Result (Vec Surveyed) BadEvidence) → entries ≡ others → dumps ≡ lists
+    → SurveyAnswer count entries dumps survey → SurveyAnswer count others lists survey
+answers_of count entries others dumps lists survey same are answer =
+    subst (λ (list : List Entry). SurveyAnswer count list lists survey) same (subst (λ (list : List (List Write)). SurveyAnswer count entries list survey) are answer)
+
+-- the least breaches of a survey are those that are shown
+pub shows_least : (count : ℕ) (entries : List Entry) (dumps : List (List Write)) (survey : Result (Vec Surveyed) BadEvidence) (list : Vec Surveyed) (made : Vec Breach) → survey ≡ Ok list
+    → made.items ≡ breaches_of list.items → SurveyAnswer count entries dumps survey → Shows false count entries dumps (Ok made)
+shows_least count entries dumps survey list made is items answer =
+    let both = subst (λ (s : Result (Vec Surveyed) BadEvidence). SurveyAnswer count entries dumps s) is answer in
+    (both.0, (list.items, both.1, items))
+
+pub shows_refused : (is_all : Bool) (count : ℕ) (entries : List Entry) (dumps : List (List Write)) (bad : BadEvidence) → Refuses count entries dumps bad → Shows is_all count entries dumps (Err bad)
+shows_refused true count entries dumps bad refuses = refuses
+shows_refused false count entries dumps bad refuses = refuses
+
+pub shows_every : (count : ℕ) (entries : List Entry) (dumps : List (List Write)) (found : Vec SessionBreaches) (made : Vec Breach) → made.items ≡ every_of found.items
+    → BreachesAnswer count entries dumps (Ok found) → Shows true count entries dumps (Ok made)
+shows_every count entries dumps found made items answer = (answer.0, (found.items, answer.1, items))
