@@ -5,7 +5,7 @@ _bayou() {
     case $command in
         '') words='run net audit check serve connect key renew export import web help -h --help -V --version' ;;
         run) words='-h --help' ;;
-        audit) words='--explain --json --picture -h --help' ;;
+        audit) words='--explain --all --json --picture -h --help' ;;
         check) words='--json -h --help' ;;
         net) words='--dir -h --help' ;;
         serve)

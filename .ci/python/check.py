@@ -11,6 +11,7 @@ import sys
 import tempfile
 
 import tables
+from every import every
 from explained import explained, objects
 from pictures import pictures
 
@@ -207,7 +208,7 @@ def device(tries, path):
 
 
 GROUPS = {"least": least, "forms": forms, "streams": streams, "told": told, "explained": explained,
-          "objects": objects, "pictures": pictures}
+          "objects": objects, "every": every, "pictures": pictures}
 
 
 def main(program, *words):

@@ -162,7 +162,7 @@ audit_words words = codes "bayou" ∷ codes "audit" ∷ words
 
 -- what a file and `--explain` ask for
 abbrev pub explained_audit : Audit
-explained_audit = record { file = file (codes "f"); is_explained = true; is_json = false; picture = None }
+explained_audit = record { file = file (codes "f"); is_explained = true; is_all = false; is_json = false; picture = None }
 
 -- the number that a text is in decimal digits, after a sign or none
 abbrev pub number_written : Text → ℕ

@@ -19,6 +19,9 @@ const AUDIT_FILE: &str = "The audit file; where it is -, the standard input";
 
 const EXPLAIN: &str = "Show each breach, or why the verdict is refused, by the lines of the file";
 
+const ALL: &str =
+    "Show every breach so, and count them, not the least of each guarantee in each session alone";
+
 const JSON: &str = "Print a JSON object a line instead, for programs";
 
 const PICTURE: &str = "Draw sessions, servers and breaches into this file, as SVG";
@@ -55,7 +58,8 @@ Then, unless it is refused, a line for each session that has an entry: `survey I
 `broken A B S O:Q`, asked for or not.
 
 With --explain each breach is shown by the lines of the file: both operations, the Write that is missing, and one sentence; and of a
-refused verdict which condition isn't met. Then a line says what each server holds, and the last one what was audited.
+refused verdict which condition isn't met. Then a line says what each server holds, and the last one what was audited. A survey has
+the least breach of a guarantee in a session; with --all every operation that breaks one is shown, and a line counts them.
 
 With --picture a picture is drawn, whole or not at all, over a file of that name: each session and each server as a line, and each
 breach of the survey with its two operations and the missing Write. Of more than 60 operations, or Writes of a server, it has only
@@ -79,6 +83,7 @@ fn with_told<'a>(alloc: Global, command: Command<'a>) -> Result<Command<'a>, All
 {
     command
         .arg(flag(alloc, "explain", EXPLAIN))?
+        .arg(flag(alloc, "all", ALL))?
         .arg(flag(alloc, "json", JSON))?
         .arg(named_option(alloc, "picture", "OUT", PICTURE))?
         .arg(Arg::new(alloc, "FILE").help(AUDIT_FILE).required(true))
@@ -100,7 +105,8 @@ fn options_in<'a>(found: &ArgMatches<'a>) -> Auditing<'a>
 {
     Auditing {
         file: source_in(found),
-        is_explained: flag_in(found, "explain"),
+        is_explained: flag_in(found, "explain") || flag_in(found, "all"),
+        is_all: flag_in(found, "all"),
         is_json: flag_in(found, "json"),
         picture: text_if_given(found, "picture"),
     }

@@ -7,6 +7,8 @@ pub struct Auditing<'a> {
     pub file: Source<'a>,
     /// Whether it is shown by the lines of the file.
     pub is_explained: bool,
+    /// Whether every breach is shown so, and not the least of each guarantee in each session alone.
+    pub is_all: bool,
     /// Whether all is printed as lines of JSON.
     pub is_json: bool,
     /// The file that a picture of it goes into, if one is asked for.

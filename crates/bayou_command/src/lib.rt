@@ -739,11 +739,12 @@ pub fn checks_are_named()
     ensures no_option { faults_of (check_words (codes "--walk" ∷ codes "f" ∷ [])) ≡ ErrorKind.UnknownArgument ∷ [] }
 {}
 
-/// A law: `bayou audit` with one file, or with `-` for the standard input, and with `--explain`, `--json` or `--picture` and a name, in any order, asks for an audit of which
+/// A law: `bayou audit` with one file, or with `-` for the standard input, and with `--explain`, `--all`, `--json` or `--picture` and a name, in any order, asks for an audit of which
 /// that is printed. Without a file, with two, with a picture that has no name, with one of these twice or with a word that is no option it is refused.
 pub fn audits_are_named()
     ensures explained { AskFor (audit_words (codes "--explain" ∷ codes "f" ∷ [])) (an_explanation explained_audit) }
     ensures explained_turned { AskFor (audit_words (codes "-" ∷ codes "--explain" ∷ [])) (an_explanation (record explained_audit { file = standard })) }
+    ensures all { AskFor (audit_words (codes "--all" ∷ codes "f" ∷ [])) (an_explanation (record explained_audit { is_all = true })) }
     ensures json { AskFor (audit_words (codes "--json" ∷ codes "f" ∷ [])) (an_explanation (record explained_audit { is_explained = false; is_json = true })) }
     ensures json_explained { AskFor (audit_words (codes "f" ∷ codes "--explain" ∷ codes "--json" ∷ [])) (an_explanation (record explained_audit { is_json = true })) }
     ensures picture { AskFor (audit_words (codes "f" ∷ codes "--picture" ∷ codes "p" ∷ [])) (an_explanation (record explained_audit { is_explained = false; picture = Some (codes "p") })) }

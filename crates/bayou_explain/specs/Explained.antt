@@ -1,6 +1,7 @@
 -- The breaches of a survey, and the lines that show them.
 use Rattle.std.specs.Prelude.{◌≡◌, ℕ, List, [], ◌∷◌, ◌++◌, Option, None, Some, All, Contains, MatchOption, flat_map, map}
 use Rattle.bayou_judge.specs.declared.breach.Breach.{Breach}
+use Rattle.bayou_judge.specs.declared.every.SessionBreaches.{SessionBreaches}
 use Rattle.bayou_judge.specs.declared.verdict.Surveyed.{Surveyed}
 use Rattle.bayou_text.specs.Said.{Said, audit_said}
 use Rattle.bayou_explain.specs.declared.explained.Explained.{Explained}
@@ -19,6 +20,14 @@ breaches_in surveyed = breach_list surveyed.ryw ++ (breach_list surveyed.mr ++ (
 -- the breaches of a survey, in their order
 abbrev pub breaches_of : List Surveyed → List Breach
 breaches_of survey = flat_map breaches_in survey
+
+-- every breach of a session, of one guarantee after another
+abbrev pub breaches_all : SessionBreaches → List Breach
+breaches_all found = found.ryw.items ++ (found.mr.items ++ (found.wfr.items ++ found.mw.items))
+
+-- every breach of these sessions
+abbrev pub every_of : List SessionBreaches → List Breach
+every_of found = flat_map breaches_all found
 
 -- the breaches that are explained
 abbrev pub breaches_told : List Explained → List Breach

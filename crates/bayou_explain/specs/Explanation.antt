@@ -47,6 +47,10 @@ abbrev pub TellsRefusal : List Located → ℕ → List (List Write) → BadEvid
 TellsRefusal lines count dumps (BadDump server place) text = TellsDump count dumps server.index place text
 TellsRefusal lines count dumps (Forged number) text = TellsForged lines number text
 
+-- how many breaches there are
+abbrev pub counted_line : ℕ → List ℕ
+counted_line breaches = codes "breaches in all: " ++ (decimal breaches ++ codes "\n")
+
 -- what was audited
 abbrev pub audited_line : (servers entries writes : ℕ) → List ℕ
 audited_line servers entries writes = codes "audited: servers " ++ (decimal servers ++ (codes " entries " ++ (decimal entries ++ (codes " held " ++ (decimal writes ++ codes "\n")))))

@@ -62,6 +62,10 @@ surveyed_json surveyed =
 abbrev pub surveys_json : List Surveyed → List ℕ
 surveys_json survey = flat_map surveyed_json survey
 
+-- how many breaches there are
+abbrev pub counted_json : ℕ → List ℕ
+counted_json breaches = codes "{\"kind\":\"breaches\",\"count\":" ++ (decimal breaches ++ codes "}\n")
+
 -- a line of the breach, with the lines that show it
 abbrev pub TellsBreachAsJson : Breach → List ℕ → Type 0
 TellsBreachAsJson breach text = (lines : List ℕ) × (text ≡ codes "{\"kind\":\"breach\"," ++ (breach_json breach ++ (codes "," ++ (lines ++ codes "}\n"))))

@@ -1,11 +1,11 @@
 //! Breaches, and the lines that show them.
 ghost use Rattle.std.specs.Prelude.{◌≡◌, ◌++◌, ℕ, All, IfOk, List, OnOk, map};
-ghost use Rattle.bayou_explain.specs.Explained.{IsFound, IsOfLine, IsShown, breach_list, breaches_in, breaches_of, breaches_told};
+ghost use Rattle.bayou_explain.specs.Explained.{IsFound, IsOfLine, IsShown, breach_list, breaches_all, breaches_in, breaches_of, breaches_told, every_of};
 ghost use Rattle.bayou_explain.specs.Located.{IsHeldBy, IsOperationAt};
 
 use crate::line::Located;
 use bayou_base::{ServerId, SessionId, Wid};
-use bayou_judge::{Breach, Surveyed};
+use bayou_judge::{Breach, SessionBreaches, Surveyed};
 use std::alloc::{AllocError, Global};
 
 /// A line of a text.
@@ -106,6 +106,74 @@ fn add_all<'a>(
     add(lines, list, surveyed.mr)?;
     add(lines, list, surveyed.wfr)?;
     add(lines, list, surveyed.mw)
+}
+
+/// These breaches, in their order, each with the lines that show it.
+pub fn explain_each<'a>(
+    alloc: Global,
+    lines: &[Located<'a>],
+    breaches: &[Breach],
+) -> Result<Vec<Explained<'a>>, AllocError>
+    ensures breaches { IfOk result (λ list. breaches_told list.items ≡ breaches.now) }
+    ensures lines { IfOk result (λ list. All (IsShown lines.now) list.items) }
+{
+    let mut list = Vec::new(alloc);
+    for breach in breaches {
+        list.push(explain_breach(lines, *breach))?;
+    }
+    Ok(list)
+}
+
+// Puts the breach, if there is one, after the others.
+fn put(list: &mut Vec<Breach>, found: Option<Breach>) -> Result<(), AllocError>
+    ensures { OnOk result (list.new.items ≡ list.old.items ++ breach_list found) }
+{
+    if let Some(breach) = found {
+        list.push(breach)?;
+    }
+    Ok(())
+}
+
+// Puts the breaches of a session after the others.
+fn put_all(list: &mut Vec<Breach>, surveyed: &Surveyed) -> Result<(), AllocError>
+    ensures { OnOk result (list.new.items ≡ list.old.items ++ breaches_in surveyed.now) }
+{
+    put(list, surveyed.ryw)?;
+    put(list, surveyed.mr)?;
+    put(list, surveyed.wfr)?;
+    put(list, surveyed.mw)
+}
+
+/// The breaches of a survey, in their order: of each guarantee in each session the least.
+pub fn least_breaches(alloc: Global, survey: &[Surveyed]) -> Result<Vec<Breach>, AllocError>
+    ensures { IfOk result (λ list. list.items ≡ breaches_of survey.now) }
+{
+    let mut list = Vec::new(alloc);
+    for surveyed in survey {
+        put_all(&mut list, surveyed)?;
+    }
+    Ok(list)
+}
+
+// Puts every breach of a session after the others.
+fn put_every(list: &mut Vec<Breach>, found: &SessionBreaches) -> Result<(), AllocError>
+    ensures { OnOk result (list.new.items ≡ list.old.items ++ breaches_all found.now) }
+{
+    list.extend_from_slice(&found.ryw)?;
+    list.extend_from_slice(&found.mr)?;
+    list.extend_from_slice(&found.wfr)?;
+    list.extend_from_slice(&found.mw)
+}
+
+/// Every breach that was found, in the order of sessions, guarantees and places.
+pub fn every_breach(alloc: Global, found: &[SessionBreaches]) -> Result<Vec<Breach>, AllocError>
+    ensures { IfOk result (λ list. list.items ≡ every_of found.now) }
+{
+    let mut list = Vec::new(alloc);
+    for session in found {
+        put_every(&mut list, session)?;
+    }
+    Ok(list)
 }
 
 /// The breaches of a survey, in their order, each with the lines that show it.

@@ -1,29 +1,28 @@
 //! What explains an audit, whole.
 ghost use Rattle.std.specs.Prelude.{◌≡◌, ◌++◌, ℕ, IfOk, List, string_bytes};
-ghost use Rattle.bayou_explain.specs.Explained.{breaches_of};
 ghost use Rattle.bayou_judge.specs.History.{lent_lists};
-ghost use Rattle.bayou_explain.specs.Explanation.{TellEach, TellsDump, TellsRefusal, audited_line, bad_dump_text, misfit_lines};
+ghost use Rattle.bayou_explain.specs.Explanation.{TellEach, TellsDump, TellsRefusal, audited_line, bad_dump_text, counted_line, misfit_lines};
 
 use crate::dumped::held_at;
-use crate::explained::{explain, held};
+use crate::explained::{explain_each, held};
 use crate::line::Located;
 use crate::misfit::{Misfit, misfit_at, misfit_text};
 use crate::refused::explain_forged;
 use crate::telling::{explained_text, forged_text, line_text};
 use bayou_base::ServerId;
-use bayou_judge::{BadEvidence, Surveyed};
+use bayou_judge::{BadEvidence, Breach};
 use bayou_lang::RestingWrite;
 use std::alloc::{AllocError, Global};
 
-/// Each breach of the survey as a person reads it, one after another; nothing where there is none.
+/// Each of the breaches as a person reads it, one after another; nothing where there is none.
 pub fn explanation_text(
     alloc: Global,
     lines: &[Located<'_>],
-    survey: &[Surveyed],
+    breaches: &[Breach],
 ) -> Result<String, AllocError>
-    ensures { IfOk result (λ text. TellEach (breaches_of survey.now) (string_bytes text)) }
+    ensures { IfOk result (λ text. TellEach breaches.now (string_bytes text)) }
 {
-    let list = explain(alloc, lines, survey)?;
+    let list = explain_each(alloc, lines, breaches)?;
     let mut text = String::new(alloc);
     for explained in list.as_slice() {
         let told = explained_text(alloc, explained)?;
@@ -115,6 +114,13 @@ pub fn refusal_text(
             None => Ok(String::new(alloc)),
         },
     }
+}
+
+/// How many breaches there are in all, in a line.
+pub fn counted_text(alloc: Global, breaches: usize) -> Result<String, AllocError>
+    ensures { IfOk result (λ text. string_bytes text ≡ counted_line breaches) }
+{
+    format!(in alloc; "breaches in all: {breaches}\n")
 }
 
 /// What was audited, in a line.

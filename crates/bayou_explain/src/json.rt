@@ -1,13 +1,12 @@
 //! An audit as lines of JSON, an object each.
 ghost use Rattle.std.specs.Prelude.{◌≡◌, ◌≤◌, IfOk, length, string_bytes};
 ghost use Rattle.bayou_base.specs.declared.limits.TheConstants.{SERVERS};
-ghost use Rattle.bayou_explain.specs.Explained.{breaches_of};
-ghost use Rattle.bayou_explain.specs.Json.{TellEachAsJson, TellsBreachAsJson, bad_json, breach_json, fields_json, found_json, lack_json, places_json, reads_json, surveyed_json, surveys_json, verdict_json, word_of, writes_json};
+ghost use Rattle.bayou_explain.specs.Json.{TellEachAsJson, TellsBreachAsJson, bad_json, breach_json, counted_json, fields_json, found_json, lack_json, places_json, reads_json, surveyed_json, surveys_json, verdict_json, word_of, writes_json};
 
 use crate::counted::counts_of;
 use crate::dumped::held_at;
 use crate::each_server::first_counts;
-use crate::explained::{Explained, Shown, explain, held};
+use crate::explained::{Explained, Shown, explain_each, held};
 use crate::line::Located;
 use crate::misfit::{Misfit, dump_at, misfit_at};
 use crate::refused::{Cause, explain_forged};
@@ -189,21 +188,28 @@ fn explained_object(alloc: Global, explained: &Explained<'_>) -> Result<String, 
     format!(in alloc; "{{\"kind\":\"breach\",{breach},{lines}}}\n")
 }
 
-/// Each breach of the survey with the lines that show it, in a line; nothing where there is none.
+/// Each of the breaches with the lines that show it, in a line; nothing where there is none.
 pub fn explanation_objects(
     alloc: Global,
     lines: &[Located<'_>],
-    survey: &[Surveyed],
+    breaches: &[Breach],
 ) -> Result<String, AllocError>
-    ensures { IfOk result (λ text. TellEachAsJson (breaches_of survey.now) (string_bytes text)) }
+    ensures { IfOk result (λ text. TellEachAsJson breaches.now (string_bytes text)) }
 {
-    let list = explain(alloc, lines, survey)?;
+    let list = explain_each(alloc, lines, breaches)?;
     let mut text = String::new(alloc);
     for explained in list.as_slice() {
         let told = explained_object(alloc, explained)?;
         text.push_str(told.as_str())?;
     }
     Ok(text)
+}
+
+/// How many breaches there are in all, in a line.
+pub fn counted_object(alloc: Global, breaches: usize) -> Result<String, AllocError>
+    ensures { IfOk result (λ text. string_bytes text ≡ counted_json breaches) }
+{
+    format!(in alloc; "{{\"kind\":\"breaches\",\"count\":{breaches}}}\n")
 }
 
 // The word of a condition that an entry fails.

@@ -45,7 +45,7 @@ places_rise count dumps entries genuine i j a b at_i at_j before same =
     subst (λ (one : Entry). one.session ≡ b.session → one.place < b.place) is rises (session-ext a.session b.session same)
 
 -- so the order of places is that of the entries
-place_order : (count : ℕ) (dumps : List (List Write)) (entries : List Entry) → AreGenuine count dumps entries → (i j : ℕ) (a b : Entry) → slice_get entries i ≡ Some a → slice_get entries j ≡ Some b
+pub place_order : (count : ℕ) (dumps : List (List Write)) (entries : List Entry) → AreGenuine count dumps entries → (i j : ℕ) (a b : Entry) → slice_get entries i ≡ Some a → slice_get entries j ≡ Some b
     → a.session.index ≡ b.session.index → a.place < b.place → i < j
 place_order count dumps entries genuine i j a b at_i at_j same less =
     elim (cases_lt i j) as (λ _. i < j) [
@@ -63,7 +63,7 @@ place_order count dumps entries genuine i j a b at_i at_j same less =
     ]
 
 -- what some entry before the later one has with it, none has where it is kept
-kept_fails : (dumps : List (List Write)) (guarantee : Guarantee) (session : ℕ) (entries : List Entry) (i at : ℕ) (first second : Entry) → IsKept dumps guarantee session (take at entries) second
+pub kept_fails : (dumps : List (List Write)) (guarantee : Guarantee) (session : ℕ) (entries : List Entry) (i at : ℕ) (first second : Entry) → IsKept dumps guarantee session (take at entries) second
     → slice_get entries i ≡ Some first → i < at → at ≤ length entries → IsFirst guarantee session first → (server : ℕ) (wid : Wid) → Fails dumps first second server wid → ⊥
 kept_fails dumps guarantee session entries i at first second kept got before within is_first =
     let size : length (take at entries) ≡ at = length-take-le at entries within in
@@ -142,7 +142,7 @@ holds count dumps entries good guarantees.MonotonicWrites session none = λ firs
     (λ fails. none first second other earlier.wid before (earlier, later, one, two, refl, (database, front, fails)))
 
 -- the breach that is met first is one
-breach_is : (count : ℕ) (dumps : List (List Write)) (entries : List Entry) → AreGenuine count dumps entries → (guarantee : Guarantee) (session at : ℕ) (breach : Breach) → IsBreachAt dumps entries guarantee session at breach
+pub breach_is : (count : ℕ) (dumps : List (List Write)) (entries : List Entry) → AreGenuine count dumps entries → (guarantee : Guarantee) (session at : ℕ) (breach : Breach) → IsBreachAt dumps entries guarantee session at breach
     → IsBreach (history_of entries dumps) breach
 breach_is count dumps entries genuine guarantee session at breach is =
     let first = is.first in
@@ -184,7 +184,7 @@ lt_le : (j k : ℕ) → j < k → j ≤ k
 lt_le j k here = omega arith
 
 -- two entries of one session: the one at the later place in the list is at the later place in the session, or they are one
-in_place : (count : ℕ) (dumps : List (List Write)) (entries : List Entry) → AreGenuine count dumps entries → (i j : ℕ) (a b : Entry) (here there : ℕ) → slice_get entries i ≡ Some a → slice_get entries j ≡ Some b
+pub in_place : (count : ℕ) (dumps : List (List Write)) (entries : List Entry) → AreGenuine count dumps entries → (i j : ℕ) (a b : Entry) (here there : ℕ) → slice_get entries i ≡ Some a → slice_get entries j ≡ Some b
     → i ≤ j → a.session.index ≡ b.session.index → here ≡ a.place → b.place ≡ there → (here ≤ there) × (there ≡ here → a ≡ b)
 in_place count dumps entries genuine i j a b here there at_i at_j order same is_a is_b =
     elim (cases_lt i j) as (λ _. (here ≤ there) × (there ≡ here → a ≡ b)) [
@@ -207,7 +207,7 @@ second_order dumps entries guarantee session at i j one other kept at_i at_j ord
       | inr above ↦ above
     ]
 
-first_order : (dumps : List (List Write)) (entries : List Entry) (guarantee : Guarantee) (session place i at : ℕ) (one second : Entry) → IsKept dumps guarantee session (take place entries) second → place < at → at < length entries
+pub first_order : (dumps : List (List Write)) (entries : List Entry) (guarantee : Guarantee) (session place i at : ℕ) (one second : Entry) → IsKept dumps guarantee session (take place entries) second → place < at → at < length entries
     → slice_get entries i ≡ Some one → IsFirst guarantee session one → (server : ℕ) (wid : Wid) → Fails dumps one second server wid → place ≤ i
 first_order dumps entries guarantee session place i at one second none_before before within at_i first_of server wid fails =
     elim (cases_lt i place) as (λ _. place ≤ i) [
@@ -216,7 +216,7 @@ first_order dumps entries guarantee session place i at one second none_before be
     ]
 
 -- keys of breaches, part by part
-keys : (s t q r a b c d : ℕ) (xs ys : List ℕ) → t ≡ s → r ≡ q → a ≤ b → (b ≡ a → (c ≤ d) × (d ≡ c → is_less xs ys ≡ false)) → is_less (t ∷ r ∷ b ∷ d ∷ xs) (s ∷ q ∷ a ∷ c ∷ ys) ≡ false
+pub keys : (s t q r a b c d : ℕ) (xs ys : List ℕ) → t ≡ s → r ≡ q → a ≤ b → (b ≡ a → (c ≤ d) × (d ≡ c → is_less xs ys ≡ false)) → is_less (t ∷ r ∷ b ∷ d ∷ xs) (s ∷ q ∷ a ∷ c ∷ ys) ≡ false
 keys s t q r a b c d xs ys sessions ranks seconds rest =
     less-later s t (r ∷ b ∷ d ∷ xs) (q ∷ a ∷ c ∷ ys) (equal_le t s sessions) (λ _.
     less-later q r (b ∷ d ∷ xs) (a ∷ c ∷ ys) (equal_le r q ranks) (λ _.

@@ -5,6 +5,7 @@ pub mod DumpsGood
 pub mod EntriesFronts
 pub mod EntriesGenuine
 pub mod EntriesHeard
+pub mod Found
 pub mod Faults
 pub mod Good
 pub mod Indexes

@@ -1,11 +1,13 @@
 -- What a judge answers, and exactly where.
-use Rattle.std.specs.Prelude.{◌≡◌, ℕ, ◌<◌, true, false, List, Option, Some, None, Result, Ok, Err, All, AllPairs, Any}
+use Rattle.std.specs.Prelude.{◌≡◌, ℕ, ◌<◌, true, false, List, Option, Some, None, Result, Ok, Err, All, AllPairs, Any, length, slice_get}
 use Rattle.std.specs.Global.{Vec}
 use Rattle.bayou_base.specs.declared.entry.Entry.{Entry}
 use Rattle.bayou_lang.specs.declared.write.Write.{Write}
 use Rattle.bayou_judge.specs.declared.breach.Guarantee.{Guarantee}
 use Rattle.bayou_judge.specs.declared.breach.Guarantee.TheVariants as guarantees
+use Rattle.bayou_base.specs.declared.limits.TheConstants.{SESSIONS}
 use Rattle.bayou_judge.specs.declared.breach.Breach.{Breach}
+use Rattle.bayou_judge.specs.declared.every.SessionBreaches.{SessionBreaches}
 use Rattle.bayou_judge.specs.declared.verdict.BadEvidence.{BadEvidence}
 use Rattle.bayou_judge.specs.declared.verdict.BadEvidence.TheVariants.{BadDump, Forged}
 use Rattle.bayou_judge.specs.declared.verdict.Surveyed.{Surveyed}
@@ -69,3 +71,34 @@ pub record IsSurvey (history : History) (entries : List Entry) (list : List Surv
 abbrev pub SurveyAnswer : ℕ → List Entry → List (List Write) → Result (Vec Surveyed) BadEvidence → Type 0
 SurveyAnswer count entries dumps (Ok list) = IsEvidence count entries dumps × IsSurvey (history_of entries dumps) entries list.items
 SurveyAnswer count entries dumps (Err bad) = Refuses count entries dumps bad
+
+-- a breach of the guarantee in the session, and of its later operation the least
+pub record IsLeastThere (history : History) (guarantee : Guarantee) (session : ℕ) (breach : Breach) : Type 0 where
+  pub guarantee_is : breach.guarantee ≡ guarantee
+  pub session_is : breach.session.index ≡ session
+  pub is : IsBreach history breach
+  pub least : (other : Breach) → other.guarantee ≡ guarantee → other.session.index ≡ session → other.second ≡ breach.second → IsBreach history other
+      → is_less (key_of other) (key_of breach) ≡ false
+
+-- just the operations of the session that break the guarantee, in their order, each with its least breach
+pub record AreBreachesOf (history : History) (guarantee : Guarantee) (session : ℕ) (list : List Breach) : Type 0 where
+  pub each : All (IsLeastThere history guarantee session) list
+  pub every : (other : Breach) → other.guarantee ≡ guarantee → other.session.index ≡ session → IsBreach history other → Any (λ breach. breach.second ≡ other.second) list
+  pub in_order : AllPairs (λ a b. a.second < b.second) list
+
+-- so of each guarantee in the session
+pub record AreBreaches (history : History) (found : SessionBreaches) : Type 0 where
+  pub ryw : AreBreachesOf history guarantees.ReadYourWrites found.session.index found.ryw.items
+  pub mr : AreBreachesOf history guarantees.MonotonicReads found.session.index found.mr.items
+  pub wfr : AreBreachesOf history guarantees.WritesFollowReads found.session.index found.wfr.items
+  pub mw : AreBreachesOf history guarantees.MonotonicWrites found.session.index found.mw.items
+
+-- and in each session, in order of their numbers
+pub record AreAllBreaches (history : History) (list : List SessionBreaches) : Type 0 where
+  pub sized : length list ≡ SESSIONS
+  pub each : (session : ℕ) (found : SessionBreaches) → slice_get list session ≡ Some found → (found.session.index ≡ session) × AreBreaches history found
+
+-- every breach that entries and dumps of so many servers show
+abbrev pub BreachesAnswer : ℕ → List Entry → List (List Write) → Result (Vec SessionBreaches) BadEvidence → Type 0
+BreachesAnswer count entries dumps (Ok list) = IsEvidence count entries dumps × AreAllBreaches (history_of entries dumps) list.items
+BreachesAnswer count entries dumps (Err bad) = Refuses count entries dumps bad

@@ -6,7 +6,7 @@
 //! name. Where they can't be of servers that keep to the rules they are refused, the least bad place of a dump first, then
 //! the first forged entry. Otherwise the verdict is whether that history keeps the four session guarantees (Terry et al. 1994),
 //! and a breach names the least pair of operations that violates one. [`survey`] tells of each guarantee in each session, and
-//! [`verdict_of`] makes the verdict of what it told, so that one pass over the entries gives both.
+//! [`verdict_of`] makes the verdict of what it told, so that one pass over the entries gives both. [`breaches`] has every operation that breaks one.
 //!
 //! Callers owe so many dumps as there are servers, and only lend them: [`lend_dumps`] makes such slices. It isn't promised
 //! that the value which a read gave was right, nor that entries and dumps are all that there was. Want of memory is an answer only
@@ -17,6 +17,7 @@ pub mod breach;
 mod demand;
 mod dumps;
 mod entries;
+pub mod every;
 mod evidence;
 mod finding;
 mod fitting;
@@ -33,6 +34,7 @@ mod told;
 pub mod verdict;
 
 pub use breach::{Breach, Guarantee};
+pub use every::{SessionBreaches, breaches};
 pub use judge_all::{judge, verdict_of};
 pub use lending::lend_dumps;
 pub use survey_all::survey;

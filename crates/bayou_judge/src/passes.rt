@@ -65,7 +65,7 @@ impl Progress {
 
 impl<'a> Evidence<'a> {
     /// What is needed by the session of this entry once it learned of it too.
-    fn needs_with(&self, at: usize, needs: &Needs) -> Needs
+    pub(crate) fn needs_with(&self, at: usize, needs: &Needs) -> Needs
         requires at { at < length self.now.entries }
         ensures { (session : ℕ) (guarantee : Guarantee) → IsNeedOf self.now.dumps guarantee session (take at self.now.entries) (need_for needs.now guarantee)
             → IsNeedOf self.now.dumps guarantee session (take (at + 1) self.now.entries) (need_for result guarantee) }
@@ -76,7 +76,7 @@ impl<'a> Evidence<'a> {
 
     /// The breach of this entry, if there is one. The entries before it are looked at only where the vectors don't show that
     /// there is none.
-    fn breach_of(
+    pub(crate) fn breach_of(
         &self,
         guarantee: Guarantee,
         session: SessionId,

@@ -1,11 +1,16 @@
 -- What an audit that is explained comes to.
-use Rattle.std.specs.Prelude.{◌≡◌, ℕ, Bool, true, false, List, [], ◌++◌, MatchOption, Option, None, Result, Ok, Err, option_map, string_bytes}
+use Rattle.std.specs.Prelude.{◌≡◌, ℕ, Bool, true, false, List, [], ◌++◌, MatchOption, Option, None, Result, Ok, Err, if◌then◌else◌, length, option_map, string_bytes}
 use Rattle.std.specs.Global.{Vec}
 use Rattle.bayou_command.specs.Audit.{Audit}
-use Rattle.bayou_explain.specs.Explained.{breaches_of}
-use Rattle.bayou_explain.specs.Explanation.{TellEach}
-use Rattle.bayou_explain.specs.Json.{TellEachAsJson, surveys_json, verdict_json}
-use Rattle.bayou_judge.specs.Answers.{SurveyAnswer}
+use Rattle.bayou_base.specs.declared.entry.Entry.{Entry}
+use Rattle.bayou_explain.specs.Explained.{breaches_of, every_of}
+use Rattle.bayou_explain.specs.Explanation.{TellEach, counted_line}
+use Rattle.bayou_explain.specs.Json.{TellEachAsJson, counted_json, surveys_json, verdict_json}
+use Rattle.bayou_judge.specs.Answers.{AreAllBreaches, IsEvidence, IsSurvey, Refuses, SurveyAnswer}
+use Rattle.bayou_judge.specs.History.{history_of}
+use Rattle.bayou_judge.specs.declared.breach.Breach.{Breach}
+use Rattle.bayou_judge.specs.declared.every.SessionBreaches.{SessionBreaches}
+use Rattle.bayou_lang.specs.declared.write.Write.{Write}
 use Rattle.bayou_judge.specs.declared.verdict.BadEvidence.{BadEvidence}
 use Rattle.bayou_judge.specs.declared.verdict.Surveyed.{Surveyed}
 use Rattle.bayou_judge.specs.declared.verdict.Verdict.{Verdict}
@@ -26,6 +31,7 @@ use Rattle.bayou_streams.specs.Account.{Account, TakesBytes}
 pub record IsExplainingOf (asked : Audit) (explaining : Explaining) : Type 0 where
   pub file : asked.file ≡ input_kept (option_map (λ name. string_bytes name) explaining.file)
   pub is_explained : asked.is_explained ≡ explaining.is_explained
+  pub is_all : asked.is_all ≡ explaining.is_all
   pub is_json : asked.is_json ≡ explaining.is_json
   pub picture : asked.picture ≡ option_map (λ name. string_bytes name) explaining.picture
 
@@ -33,21 +39,37 @@ pub record IsExplainingOf (asked : Audit) (explaining : Explaining) : Type 0 whe
 abbrev pub IsSurveyedOf : Evidence → Result (Vec Surveyed) BadEvidence → Type 0
 IsSurveyedOf evidence survey = SurveyAnswer evidence.count evidence.entries evidence.dumps survey
 
--- what is printed of a survey begins with each of its breaches; of a refused verdict nothing is said here
-abbrev pub IsToldOf : Result (Vec Surveyed) BadEvidence → List ℕ → Type 0
-IsToldOf (Ok survey) text = (breaches rest : List ℕ) × TellEach (breaches_of survey.items) breaches × (text ≡ breaches ++ rest)
+-- the breaches are all that the evidence shows, or the least of each guarantee in each session; or it is refused so
+abbrev pub Shows : (is_all : Bool) → ℕ → List Entry → List (List Write) → Result (Vec Breach) BadEvidence → Type 0
+Shows true count entries dumps (Ok list) = IsEvidence count entries dumps
+    × ((found : List SessionBreaches) × AreAllBreaches (history_of entries dumps) found × (list.items ≡ every_of found))
+Shows false count entries dumps (Ok list) = IsEvidence count entries dumps
+    × ((survey : List Surveyed) × IsSurvey (history_of entries dumps) entries survey × (list.items ≡ breaches_of survey))
+Shows is_all count entries dumps (Err bad) = Refuses count entries dumps bad
+
+abbrev pub IsShownOf : (is_all : Bool) → Evidence → Result (Vec Breach) BadEvidence → Type 0
+IsShownOf is_all evidence shown = Shows is_all evidence.count evidence.entries evidence.dumps shown
+
+-- how many breaches there are is printed where every one is
+abbrev pub IsCounted : Beside → Result (Vec Breach) BadEvidence → List ℕ → Type 0
+IsCounted beside (Ok list) text = text ≡ (if beside.is_all then (if beside.is_json then counted_json (length list.items) else counted_line (length list.items)) else [])
+IsCounted beside (Err bad) text = text ≡ []
+
+-- what is printed begins with each of the breaches; of a refused verdict nothing is said here
+abbrev pub IsToldOf : Result (Vec Breach) BadEvidence → List ℕ → Type 0
+IsToldOf (Ok list) text = (breaches rest : List ℕ) × TellEach list.items breaches × (text ≡ breaches ++ rest)
 IsToldOf (Err bad) text = Unit {0}
 
 -- the same as lines of JSON
-abbrev pub IsToldAsJson : Result (Vec Surveyed) BadEvidence → List ℕ → Type 0
-IsToldAsJson (Ok survey) text = (breaches rest : List ℕ) × TellEachAsJson (breaches_of survey.items) breaches × (text ≡ breaches ++ rest)
+abbrev pub IsToldAsJson : Result (Vec Breach) BadEvidence → List ℕ → Type 0
+IsToldAsJson (Ok list) text = (breaches rest : List ℕ) × TellEachAsJson list.items breaches × (text ≡ breaches ++ rest)
 IsToldAsJson (Err bad) text = Unit {0}
 
 -- either where it is asked for, and nothing else
-abbrev pub IsToldBeside : (is_explained is_json : Bool) → Result (Vec Surveyed) BadEvidence → List ℕ → Type 0
-IsToldBeside true false survey text = IsToldOf survey text
-IsToldBeside true true survey text = IsToldAsJson survey text
-IsToldBeside false is_json survey text = text ≡ []
+abbrev pub IsToldBeside : (is_explained is_json : Bool) → Result (Vec Breach) BadEvidence → List ℕ → Type 0
+IsToldBeside true false shown text = IsToldOf shown text
+IsToldBeside true true shown text = IsToldAsJson shown text
+IsToldBeside false is_json shown text = text ≡ []
 
 abbrev pub survey_json : Result (Vec Surveyed) BadEvidence → List ℕ
 survey_json (Ok survey) = surveys_json survey.items
@@ -82,8 +104,10 @@ pub record ExplainsAs (beside : Beside) (text : List ℕ) (made : Outcome) (old 
   pub audited : SaysAudit beside.is_json evidence ended audit
   pub survey : Result (Vec Surveyed) BadEvidence
   pub surveyed : IsSurveyedOf evidence survey
+  pub shown : Result (Vec Breach) BadEvidence
+  pub shows : IsShownOf beside.is_all evidence shown
   pub told : List ℕ
-  pub tells : IsToldBeside beside.is_explained beside.is_json survey told
+  pub tells : IsToldBeside beside.is_explained beside.is_json shown told
   pub printed : TakesBytes old new (audit ++ told)
   pub status_is : made.status ≡ ended_status ended
   pub drawn : IsDrawnBeside beside.is_drawn survey made.picture

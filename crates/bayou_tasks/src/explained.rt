@@ -1,18 +1,21 @@
 //! An audit that is explained, from the words to the exit status.
 ghost use Rattle.std.specs.Global.{Vec};
-ghost use Rattle.std.specs.Prelude.{◌≡◌, ◌≤◌, ◌++◌, ℕ, IfOk, IfSome, List, Result, is_some, length, option_map, string_bytes};
+ghost use Rattle.std.specs.Prelude.{◌≡◌, ◌<◌, ◌≤◌, ◌++◌, ℕ, false, true, IfOk, IfSome, List, Result, is_some, length, option_map, string_bytes};
+ghost use Rattle.bayou_base.specs.declared.entry.Entry.{Entry as Tried};
 ghost use Rattle.bayou_base.specs.declared.limits.TheConstants.{SERVERS};
 ghost use Rattle.bayou_command.specs.Audit.{auditing_seen};
 ghost use Rattle.bayou_command.specs.Words.{input_seen};
 ghost use Rattle.bayou_explain.specs.Json.{verdict_json};
 ghost use Rattle.bayou_judge.specs.Answers.{Judges, SurveyAnswer};
+ghost use Rattle.bayou_judge.specs.History.{lent_lists};
+ghost use Rattle.bayou_judge.specs.declared.breach.Breach.{Breach as Violation};
 ghost use Rattle.bayou_judge.specs.declared.verdict.BadEvidence.{BadEvidence as Bad};
 ghost use Rattle.bayou_judge.specs.declared.verdict.Surveyed.{Surveyed as Found};
 ghost use Rattle.bayou_lang.specs.declared.write.Write.{Write};
 ghost use Rattle.bayou_script.specs.AuditFile.{evidence_of};
 ghost use Rattle.bayou_streams.specs.Account.{TakesBytes, account};
 ghost use Rattle.bayou_tasks.specs.Checks.{input_kept};
-ghost use Rattle.bayou_tasks.specs.Explanations.{ExplainsAs, IsDrawnBeside, IsExplainingOf, IsJsonAudit, IsSurveyedOf, IsToldAsJson, IsToldBeside, IsToldOf, SaysAudit, survey_json};
+ghost use Rattle.bayou_tasks.specs.Explanations.{ExplainsAs, IsCounted, IsDrawnBeside, IsExplainingOf, IsJsonAudit, IsShownOf, IsSurveyedOf, IsToldAsJson, IsToldBeside, IsToldOf, SaysAudit, Shows, survey_json};
 
 use crate::audit::audit;
 use crate::checked::{FAILED, REFUSED, STANDARD, read_whole};
@@ -21,10 +24,13 @@ use crate::telling::tell;
 use bayou_base::Entry;
 use bayou_command::{Auditing, Source};
 use bayou_explain::{
-    Located, audited_object, audited_text, explanation_objects, explanation_text, locate,
-    refusal_object, refusal_text, standing_text, survey_objects, verdict_object,
+    Located, audited_object, audited_text, counted_object, counted_text, every_breach,
+    explanation_objects, explanation_text, least_breaches, locate, refusal_object, refusal_text,
+    standing_text, survey_objects, verdict_object,
 };
-use bayou_judge::{BadEvidence, Surveyed, Verdict, lend_dumps, survey, verdict_of};
+use bayou_judge::{
+    BadEvidence, Breach, Surveyed, Verdict, breaches, lend_dumps, survey, verdict_of,
+};
 use bayou_lang::RestingWrite;
 use bayou_picture::picture_text;
 use bayou_print::{Ended, RunFault, Waiting, write_text};
@@ -43,6 +49,8 @@ const OVER_ITSELF: &str = "bayou: --picture names the file that is audited\n";
 pub struct Beside {
     /// Whether it is explained.
     pub is_explained: bool,
+    /// Whether every breach is explained, and not the least of each guarantee in each session alone.
+    pub is_all: bool,
     /// Whether all is printed as lines of JSON.
     pub is_json: bool,
     /// Whether a picture is drawn.
@@ -62,6 +70,7 @@ pub struct Explaining {
     /// `None` where it is the standard input.
     file: Option<String>,
     is_explained: bool,
+    is_all: bool,
     is_json: bool,
     /// The file that a picture goes into, if one is drawn.
     picture: Option<String>,
@@ -97,6 +106,7 @@ impl Explaining {
         Ok(Explaining {
             file,
             is_explained: auditing.is_explained,
+            is_all: auditing.is_all,
             is_json: auditing.is_json,
             picture,
         })
@@ -104,28 +114,59 @@ impl Explaining {
 
     // What is printed beside the verdict and the survey.
     fn beside(&self) -> Beside
-        ensures said { (result.is_explained ≡ self.now.is_explained) × (result.is_json ≡ self.now.is_json) }
+        ensures said { (result.is_explained ≡ self.now.is_explained) × (result.is_all ≡ self.now.is_all) × (result.is_json ≡ self.now.is_json) }
         ensures drawn { result.is_drawn ≡ is_some self.now.picture }
     {
         Beside {
             is_explained: self.is_explained,
+            is_all: self.is_all,
             is_json: self.is_json,
             is_drawn: self.picture.is_some(),
         }
     }
 }
 
-// What is printed of a survey, or of why there is none.
+// The least breaches of a survey, or why there is none.
+fn least_shown(
+    alloc: Global,
+    surveyed: &Result<Vec<Surveyed>, BadEvidence>,
+) -> Result<Result<Vec<Breach>, BadEvidence>, AllocError>
+    ensures { IfOk result (λ shown. (count : ℕ) (entries : List Tried) (dumps : List (List Write)) → SurveyAnswer count entries dumps surveyed.now → Shows false count entries dumps shown) }
+{
+    match surveyed {
+        Ok(list) => Ok(Ok(least_breaches(alloc, list.as_slice())?)),
+        Err(bad) => Ok(Err(*bad)),
+    }
+}
+
+// Every breach of the evidence, or why there is none.
+fn every_shown(
+    alloc: Global,
+    count: u8,
+    entries: &[Entry],
+    dumps: &[&[RestingWrite]],
+) -> Result<Result<Vec<Breach>, BadEvidence>, AllocError>
+    requires servers { (0 < count) × (count ≤ SERVERS) }
+    requires dumps { length dumps.now ≡ count }
+    ensures { IfOk result (λ shown. Shows true count entries.now (lent_lists dumps.now) shown) }
+{
+    match breaches(alloc, count, entries, dumps)? {
+        Ok(found) => Ok(Ok(every_breach(alloc, found.as_slice())?)),
+        Err(bad) => Ok(Err(bad)),
+    }
+}
+
+// What is printed of breaches, or of why there are none.
 fn told_of(
     alloc: Global,
     lines: &[Located<'_>],
     count: u8,
     dumps: &[&[RestingWrite]],
-    surveyed: &Result<Vec<Surveyed>, BadEvidence>,
+    shown: &Result<Vec<Breach>, BadEvidence>,
 ) -> Result<String, AllocError>
-    ensures { IfOk result (λ text. IsToldOf surveyed.now (string_bytes text)) }
+    ensures { IfOk result (λ text. IsToldOf shown.now (string_bytes text)) }
 {
-    match surveyed {
+    match shown {
         Ok(list) => explanation_text(alloc, lines, list.as_slice()),
         Err(bad) => refusal_text(alloc, lines, count, dumps, *bad),
     }
@@ -137,11 +178,11 @@ fn objects_of(
     lines: &[Located<'_>],
     count: u8,
     dumps: &[&[RestingWrite]],
-    surveyed: &Result<Vec<Surveyed>, BadEvidence>,
+    shown: &Result<Vec<Breach>, BadEvidence>,
 ) -> Result<String, AllocError>
-    ensures { IfOk result (λ text. IsToldAsJson surveyed.now (string_bytes text)) }
+    ensures { IfOk result (λ text. IsToldAsJson shown.now (string_bytes text)) }
 {
-    match surveyed {
+    match shown {
         Ok(list) => explanation_objects(alloc, lines, list.as_slice()),
         Err(bad) => refusal_object(alloc, lines, count, dumps, *bad),
     }
@@ -156,37 +197,77 @@ fn held(file: &AuditFile) -> usize {
     sum
 }
 
+// How many breaches there are, where every one is shown, as lines or as lines of JSON.
+fn counted(
+    alloc: Global,
+    beside: Beside,
+    shown: &Result<Vec<Breach>, BadEvidence>,
+) -> Result<String, AllocError>
+    ensures { IfOk result (λ text. IsCounted beside shown.now (string_bytes text)) }
+{
+    match shown {
+        Ok(list) if beside.is_all && beside.is_json => counted_object(alloc, list.len()),
+        Ok(list) if beside.is_all => counted_text(alloc, list.len()),
+        _ => Ok(String::new(alloc)),
+    }
+}
+
 // What explains the evidence, and what it was, in lines.
 fn told_lines(
     alloc: Global,
+    beside: Beside,
     lines: &[Located<'_>],
     file: &AuditFile,
     dumps: &[&[RestingWrite]],
-    surveyed: &Result<Vec<Surveyed>, BadEvidence>,
+    shown: &Result<Vec<Breach>, BadEvidence>,
 ) -> Result<String, AllocError>
     requires { length dumps.now ≤ SERVERS }
-    ensures { IfOk result (λ text. IsToldOf surveyed.now (string_bytes text)) }
+    ensures { IfOk result (λ text. IsToldOf shown.now (string_bytes text)) }
 {
-    let told = told_of(alloc, lines, file.count, dumps, surveyed)?;
+    let told = told_of(alloc, lines, file.count, dumps, shown)?;
+    let counted = counted(alloc, beside, shown)?;
     let standing = standing_text(alloc, dumps)?;
     let audited = audited_text(alloc, file.count, file.entries.len(), held(file))?;
-    format!(in alloc; "{told}{standing}{audited}")
+    format!(in alloc; "{told}{counted}{standing}{audited}")
 }
 
 // The same in lines of JSON.
 fn told_objects(
     alloc: Global,
+    beside: Beside,
     lines: &[Located<'_>],
     file: &AuditFile,
     dumps: &[&[RestingWrite]],
-    surveyed: &Result<Vec<Surveyed>, BadEvidence>,
+    shown: &Result<Vec<Breach>, BadEvidence>,
 ) -> Result<String, AllocError>
     requires { length dumps.now ≤ SERVERS }
-    ensures { IfOk result (λ text. IsToldAsJson surveyed.now (string_bytes text)) }
+    ensures { IfOk result (λ text. IsToldAsJson shown.now (string_bytes text)) }
 {
-    let told = objects_of(alloc, lines, file.count, dumps, surveyed)?;
+    let told = objects_of(alloc, lines, file.count, dumps, shown)?;
+    let counted = counted(alloc, beside, shown)?;
     let audited = audited_object(alloc, file.entries.len(), dumps)?;
-    format!(in alloc; "{told}{audited}")
+    format!(in alloc; "{told}{counted}{audited}")
+}
+
+// The breaches that are to be shown: every one, or the least of each guarantee in each session; or why there are none.
+fn shown_of(
+    alloc: Global,
+    is_all: bool,
+    count: u8,
+    entries: &[Entry],
+    dumps: &[&[RestingWrite]],
+    surveyed: &Result<Vec<Surveyed>, BadEvidence>,
+) -> Result<Result<Vec<Breach>, BadEvidence>, AllocError>
+    requires servers { (0 < count) × (count ≤ SERVERS) }
+    requires dumps { length dumps.now ≡ count }
+    requires surveyed { SurveyAnswer count entries.now (lent_lists dumps.now) surveyed.now }
+    ensures { IfOk result (λ shown. Shows is_all count entries.now (lent_lists dumps.now) shown) }
+{
+    if is_all {
+        every_shown(alloc, count, entries, dumps)
+    } else {
+        least_shown(alloc, surveyed)
+    }
 }
 
 // What explains the evidence, and what it was; nothing where that isn't asked for.
@@ -196,18 +277,18 @@ fn told_beside(
     lines: &[Located<'_>],
     file: &AuditFile,
     dumps: &[&[RestingWrite]],
-    surveyed: &Result<Vec<Surveyed>, BadEvidence>,
+    shown: &Result<Vec<Breach>, BadEvidence>,
 ) -> Result<String, AllocError>
     requires { length dumps.now ≤ SERVERS }
-    ensures { IfOk result (λ text. IsToldBeside beside.is_explained beside.is_json surveyed.now (string_bytes text)) }
+    ensures { IfOk result (λ text. IsToldBeside beside.is_explained beside.is_json shown.now (string_bytes text)) }
 {
     if !beside.is_explained {
         return Ok(String::new(alloc));
     }
     if beside.is_json {
-        return told_objects(alloc, lines, file, dumps, surveyed);
+        return told_objects(alloc, beside, lines, file, dumps, shown);
     }
-    told_lines(alloc, lines, file, dumps, surveyed)
+    told_lines(alloc, beside, lines, file, dumps, shown)
 }
 
 // The picture of the evidence, where one is asked for.
@@ -235,13 +316,22 @@ fn explain_file(
     text: &[u8],
     file: &AuditFile,
 ) -> Result<(String, Option<Vec<u8>>), AllocError>
-    ensures { IfOk result (λ told. (survey : Result (Vec Found) Bad) × IsSurveyedOf (evidence_of file.now) survey × IsToldBeside beside.is_explained beside.is_json survey (string_bytes told.0)
+    ensures { IfOk result (λ told. (survey : Result (Vec Found) Bad) × IsSurveyedOf (evidence_of file.now) survey
+        × (shown : Result (Vec Violation) Bad) × IsShownOf beside.is_all (evidence_of file.now) shown × IsToldBeside beside.is_explained beside.is_json shown (string_bytes told.0)
         × IsDrawnBeside beside.is_drawn survey told.1) }
 {
     let lines = locate(alloc, text)?;
     let dumps = lend_dumps(&file.dumps);
     let surveyed = survey(alloc, file.count, &file.entries, &dumps)?;
-    let told = told_beside(alloc, beside, lines.as_slice(), file, &dumps, &surveyed)?;
+    let shown = shown_of(
+        alloc,
+        beside.is_all,
+        file.count,
+        &file.entries,
+        &dumps,
+        &surveyed,
+    )?;
+    let told = told_beside(alloc, beside, lines.as_slice(), file, &dumps, &shown)?;
     let drawn = drawn_beside(alloc, beside, name, file.count, lines.as_slice(), &surveyed)?;
     Ok((told, drawn))
 }

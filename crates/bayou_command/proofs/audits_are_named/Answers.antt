@@ -45,3 +45,7 @@ returns-clause-json c = record { good = refl; entered = refl }
 pub returns-clause-json_explained : goal.returns-clause-json_explained
 unfolding clap_on_literals
 returns-clause-json_explained c = record { good = refl; entered = refl }
+
+pub returns-clause-all : goal.returns-clause-all
+unfolding clap_on_literals
+returns-clause-all c = record { good = refl; entered = refl }

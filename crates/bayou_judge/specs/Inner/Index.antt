@@ -1,5 +1,5 @@
 -- What is known of a dump once it was gone through: inner words.
-use Rattle.std.specs.Prelude.{◌≡◌, ◌≢◌, ℕ, ◌+◌, ◌-◌, ◌<◌, ◌≤◌, false, List, [], Option, Some, None, All, length, slice_get, slice_index, slice_index_or, take, if◌then◌else◌}
+use Rattle.std.specs.Prelude.{◌≡◌, ◌≢◌, ℕ, ◌+◌, ◌-◌, ◌<◌, false, List, [], Option, Some, None, All, length, slice_get, slice_index, slice_index_or, take, if◌then◌else◌}
 use Rattle.bayou_base.specs.Order.{is_before}
 use Rattle.bayou_base.specs.declared.stamp.Stamp.{Stamp}
 use Rattle.bayou_base.specs.declared.wid.Wid.{Wid}

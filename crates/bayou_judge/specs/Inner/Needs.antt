@@ -1,5 +1,5 @@
 -- Vectors in place of sets: what a session heard of, and what an operation demands of it. Inner words.
-use Rattle.std.specs.Prelude.{◌≡◌, ℕ, ◌+◌, ◌<◌, ◌≤◌, ◌↔◌, ◌⊎◌, Bool, true, false, List, Option, Some, None, Contains, All, ◌∷◌, [], ◌≢◌, length, slice_get, take}
+use Rattle.std.specs.Prelude.{◌≡◌, ℕ, ◌+◌, ◌<◌, ◌≤◌, ◌↔◌, ◌⊎◌, Bool, true, false, List, Option, Some, None, Contains, All, AllPairs, Any, ◌∷◌, [], ◌≢◌, length, slice_get, take}
 use Rattle.bayou_base.specs.Order.{is_before}
 use Rattle.bayou_base.specs.Vector.{Covers}
 use Rattle.bayou_base.specs.declared.entry.Entry.{Entry}
@@ -212,3 +212,10 @@ IsBreachOf dumps entries guarantee session at second (Some breach) = IsBreachAt 
 abbrev pub IsBreachFor : List (List Write) → List Entry → Guarantee → (session at : ℕ) → Entry → Option Breach → Type 0
 IsBreachFor dumps entries guarantee session at second None = IsSecond guarantee session second → IsKept dumps guarantee session (take at entries) second
 IsBreachFor dumps entries guarantee session at second (Some breach) = IsBreachAt dumps entries guarantee session at breach
+
+-- just the entries before this place that break the guarantee in the session, in their order, each with its breach
+pub record AreFoundTo (dumps : List (List Write)) (entries : List Entry) (guarantee : Guarantee) (session upto : ℕ) (list : List Breach) : Type 0 where
+  pub each : All (λ breach. (at : ℕ) × (at < upto) × IsBreachAt dumps entries guarantee session at breach) list
+  pub every : (at : ℕ) (second : Entry) → at < upto → slice_get entries at ≡ Some second → IsSecond guarantee session second
+      → IsKept dumps guarantee session (take at entries) second ⊎ Any (IsBreachAt dumps entries guarantee session at) list
+  pub in_order : AllPairs (λ a b. a.second < b.second) list

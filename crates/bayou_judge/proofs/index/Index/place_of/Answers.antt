@@ -2,7 +2,7 @@ use Rattle.std.proofs.Common.{◌≡◌, ◌<◌, ◌≤◌, ◌-◌, Some, [], 
 use Rattle.std.proofs.lemmas.List.{get_or-map}
 use Rattle.bayou_base.specs.Vector.{Covers}
 use Rattle.bayou_lang.specs.Writes.{count_of}
-use Rattle.bayou_judge.specs.Inner.Index.{place_in, places_of, IsPlaceOf, Tables}
+use Rattle.bayou_judge.specs.Inner.Index.{places_of, IsPlaceOf, Tables}
 use Rattle.bayou_judge.proofs.DumpsFound.{copied_there}
 use Rattle.bayou_judge.proofs.Indexes.{none_of_wid, place_found}
 use Rattle.bayou_judge.proofs.index.Index.place_of.Goals as goal
