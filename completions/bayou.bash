@@ -4,7 +4,7 @@ _bayou() {
     [ "$COMP_CWORD" -lt 2 ] || command=${COMP_WORDS[1]}
     case $command in
         '') words='run net audit check serve connect key renew export import web help -h --help -V --version' ;;
-        run) words='-h --help' ;;
+        run) words='--json -h --help' ;;
         audit) words='--explain --all --json --picture -h --help' ;;
         check) words='--json -h --help' ;;
         net) words='--dir -h --help' ;;
@@ -12,7 +12,7 @@ _bayou() {
             words='--id --servers --dir --listen --peer --key --every --limit --connections --idle'
             words+=' --until-input-ends --new --restore --without --anyone -h --help'
             ;;
-        connect) words='--server --servers --session --key --state --book --log --wait --timeout -h --help' ;;
+        connect) words='--server --servers --session --key --state --book --log --wait --timeout --json -h --help' ;;
         key) words='--name -h --help' ;;
         renew) words='--id --servers --dir --to --at --servers-then --without --full -h --help' ;;
         export) words='--server --servers --key --timeout --dir --id -h --help' ;;

@@ -11,6 +11,7 @@ import sys
 import tempfile
 
 import tables
+from answers import answers
 from every import every
 from explained import explained, objects
 from pictures import pictures
@@ -208,7 +209,7 @@ def device(tries, path):
 
 
 GROUPS = {"least": least, "forms": forms, "streams": streams, "told": told, "explained": explained,
-          "objects": objects, "every": every, "pictures": pictures}
+          "objects": objects, "every": every, "pictures": pictures, "answers": answers}
 
 
 def main(program, *words):

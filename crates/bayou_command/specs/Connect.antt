@@ -1,18 +1,18 @@
 -- The words after `connect`: what its options take, and what they ask for.
-use Rattle.std.specs.Prelude.{ℕ, List, [], ◌∷◌, Option, Some, codes, map, option_map}
+use Rattle.std.specs.Prelude.{ℕ, Bool, List, [], ◌∷◌, Option, Some, codes, map, option_map}
 use Rattle.clap.specs.Words.{App, Row, Rule, Text, new_app}
 use Rattle.clap.specs.declared.builder.action.ArgAction.TheVariants.{Append}
 use Rattle.bayou_base.specs.declared.limits.TheConstants.{DEFAULT_TIMEOUT_SECONDS, MAX_SECONDS, SERVERS}
-use Rattle.bayou_command.specs.Options.{Input, file_option_rule, file_rule, given_of, input_of, input_seen, needed, number_given, number_of, number_rule, option_rule, texts_of, with_rules}
+use Rattle.bayou_command.specs.Options.{Input, file_option_rule, file_rule, flag_of, flag_rule, given_of, input_of, input_seen, needed, number_given, number_of, number_rule, option_rule, texts_of, with_rules}
 use Rattle.bayou_command.specs.declared.connecting.Connecting.{Connecting}
 
 -- which servers there are, of which one must be named, what the session asks for, and the key of the store
 abbrev pub store_rules : List Rule
 store_rules = record (needed (option_rule (codes "server"))) { action = Some Append } ∷ number_rule (codes "servers") 1 SERVERS ∷ option_rule (codes "session") ∷ file_option_rule (codes "key") ∷ []
 
--- what is kept, for how long it waits, and a file of lines or none
+-- what is kept, for how long it waits, whether rows are printed as JSON, and a file of lines or none
 abbrev pub kept_rules : List Rule
-kept_rules = file_option_rule (codes "state") ∷ file_option_rule (codes "book") ∷ file_option_rule (codes "log") ∷ number_rule (codes "wait") 0 MAX_SECONDS ∷ number_rule (codes "timeout") 1 MAX_SECONDS ∷ file_rule ∷ []
+kept_rules = file_option_rule (codes "state") ∷ file_option_rule (codes "book") ∷ file_option_rule (codes "log") ∷ number_rule (codes "wait") 0 MAX_SECONDS ∷ number_rule (codes "timeout") 1 MAX_SECONDS ∷ flag_rule (codes "json") ∷ file_rule ∷ []
 
 abbrev pub connect_app : App
 connect_app = with_rules (with_rules (new_app (codes "connect")) store_rules) kept_rules
@@ -28,6 +28,7 @@ pub record Connection : Type 0 where
   pub log : Option Text
   pub wait_seconds : ℕ
   pub timeout_seconds : ℕ
+  pub is_json : Bool
   pub input : Input
 
 -- what the options ask for
@@ -42,6 +43,7 @@ connection_of rows = record {
   log = given_of (codes "log") rows;
   wait_seconds = number_of (codes "wait") 0 MAX_SECONDS 0 rows;
   timeout_seconds = number_of (codes "timeout") 1 MAX_SECONDS DEFAULT_TIMEOUT_SECONDS rows;
+  is_json = flag_of (codes "json") rows;
   input = input_of rows;
 }
 
@@ -57,5 +59,6 @@ connection_seen connecting = record {
   log = option_map (λ name. name.now) connecting.log;
   wait_seconds = connecting.wait_seconds;
   timeout_seconds = connecting.timeout_seconds;
+  is_json = connecting.is_json;
   input = input_seen connecting.input;
 }

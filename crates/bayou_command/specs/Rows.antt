@@ -63,6 +63,7 @@ plain_connection = record {
   log = None;
   wait_seconds = 0;
   timeout_seconds = 3;
+  is_json = false;
   input = standard;
 }
 

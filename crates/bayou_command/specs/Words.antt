@@ -5,7 +5,7 @@ use Rattle.clap.specs.Kinds.{IsAmong, Kinds}
 use Rattle.clap.specs.Words.{App, Row, Text, fault_of, new_app, subcommand_of, with_rule, with_subcommand}
 use Rattle.clap.specs.declared.error.kind.ErrorKind.{ErrorKind}
 use Rattle.clap.specs.declared.error.kind.ErrorKind.TheVariants.{DisplayHelp, DisplayVersion}
-pub use Rattle.bayou_command.specs.Options.{Input, file, file_name, file_rule, folder_name, folder_rule, input_named, input_of, input_seen, standard}
+pub use Rattle.bayou_command.specs.Options.{Input, file, file_name, file_rule, flag_of, flag_rule, folder_name, folder_rule, input_named, input_of, input_seen, standard}
 use Rattle.bayou_command.specs.Audit.{Audit, audit_app, auditing_of, auditing_seen, is_plain}
 use Rattle.bayou_command.specs.Check.{Check, check_app, check_of, check_seen}
 use Rattle.bayou_command.specs.Connect.{Connection, connect_app, connection_of, connection_seen}
@@ -19,11 +19,11 @@ use Rattle.bayou_command.specs.Serve.{Service, serve_app, service_of, service_se
 use Rattle.bayou_command.specs.declared.Stop.{Stop}
 use Rattle.bayou_command.specs.declared.Stop.TheVariants as stops
 use Rattle.bayou_command.specs.declared.Task.{Task}
-use Rattle.bayou_command.specs.declared.Task.TheVariants.{Run, Audit as Audits, Explain, Net, Serve, Connect, Key, Renew, Export as Exports, Import as Imports, Check as Checks, Web as Pages}
+use Rattle.bayou_command.specs.declared.Task.TheVariants.{Run, RunAsJson, Audit as Audits, Explain, Net, Serve, Connect, Key, Renew, Export as Exports, Import as Imports, Check as Checks, Web as Pages}
 
--- `run` takes a file or none
+-- `run` takes a file or none, and whether answers are printed as JSON
 abbrev pub run_app : App
-run_app = with_rule (new_app (codes "run")) file_rule
+run_app = with_rule (with_rule (new_app (codes "run")) (flag_rule (codes "json"))) file_rule
 
 -- `net` takes a folder, and a file or none
 abbrev pub net_app : App
@@ -48,6 +48,7 @@ faults_of words = fault_of bayou_app words
 -- what is asked for
 pub data Asked : Type 0 where
   a_run : Input → Asked
+  a_json_run : Input → Asked
   an_audit : Input → Asked
   an_explanation : Audit → Asked
   a_net : Text → Input → Asked
@@ -68,6 +69,10 @@ folder_of rows = text_of folder_name rows
 abbrev pub audit_of : List Row → Asked
 audit_of rows = let audit = auditing_of rows in if is_plain audit then an_audit audit.file else an_explanation audit
 
+-- a run of the script, or one whose answers are JSON objects
+abbrev pub run_of : List Row → Asked
+run_of rows = if flag_of (codes "json") rows then a_json_run (input_of rows) else a_run (input_of rows)
+
 -- of the commands that take a store as a whole, and `check`, the one that was entered, or else a run
 abbrev pub asked_beside : Text → List Row → Asked
 asked_beside name rows =
@@ -75,7 +80,7 @@ asked_beside name rows =
     else if bytes_eq name (codes "export") then an_export (export_of rows)
     else if bytes_eq name (codes "import") then an_import (import_of rows)
     else if bytes_eq name (codes "check") then a_check (check_of rows)
-    else a_run (input_of rows)
+    else run_of rows
 
 -- of a person's commands, or of those, the one that was entered
 abbrev pub asked_of_person : Text → List Row → Asked
@@ -106,6 +111,7 @@ pub record AskFor (words : List Text) (asked : Asked) : Type 0 where
 -- what is seen of a task
 abbrev pub task_seen : Task → Asked
 task_seen (Run source) = a_run (input_seen source)
+task_seen (RunAsJson source) = a_json_run (input_seen source)
 task_seen (Audits source) = an_audit (input_seen source)
 task_seen (Explain auditing) = an_explanation (auditing_seen auditing)
 task_seen (Net folder script) = a_net folder.now (input_seen script)

@@ -68,7 +68,7 @@ what a breach touches. Look at it in a browser.
       bayou audit --explain --picture booking.svg booking.jsonl
 
 With --json each line is an object: the verdict, each session of the survey, and with --explain each breach and the rest
-(docs/FORMATS.md, "What an audit prints as JSON").
+(docs/FORMATS.md, "What is printed as JSON").
 
 Nothing is printed before the whole file was read and found good. A fault is one line on standard error.
 Exit status: 0 clean; 1 broken; 2 the verdict, the file or the command line is refused; 3 memory, the input or the output failed.

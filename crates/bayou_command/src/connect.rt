@@ -8,7 +8,8 @@ ghost use Rattle.bayou_base.specs.declared.limits.TheConstants.{SERVERS};
 
 use crate::connecting::Connecting;
 use crate::options::{
-    file_option, number_if_given, number_in, number_option, text_if_given, texts_in, value_option,
+    file_option, flag, flag_in, number_if_given, number_in, number_option, text_if_given, texts_in,
+    value_option,
 };
 use crate::source_in;
 use bayou_base::limits::{DEFAULT_TIMEOUT_SECONDS, MAX_SECONDS, SERVERS};
@@ -41,6 +42,8 @@ const WAIT: &str =
 
 const TIMEOUT: &str =
     "So many seconds a server has for the connection and its whole reply (1 to 86400; without it 3)";
+
+const JSON: &str = "Print a JSON object for each row of list, servers and mine, for programs";
 
 const LINES: &str = "The lines; without it, and where it is -, the standard input";
 
@@ -110,6 +113,7 @@ What the session asks for is kept, too: a later --session that says anything els
 that was made with a key is used with no other, and not without.
 --book writes what was served to FILE, as an audit file; with the dumps of all servers bayou audit tells whether the session had what it
 asked for. --log adds each line that is printed to FILE, after its time, so that one can see later what was said, and when.
+With --json the lines list, servers and mine print an object for each row (docs/FORMATS.md, "What is printed as JSON").
 
 At a terminal a prompt on standard error names the server that is asked first; rlwrap in front of the call brings line editing with history.
 
@@ -145,6 +149,7 @@ fn with_kept<'a>(alloc: Global, command: Command<'a>) -> Result<Command<'a>, All
         .arg(file_option(alloc, "log", LOG))?
         .arg(number_option(alloc, "wait", "SECONDS", WAIT, 0, MAX_SECONDS))?
         .arg(number_option(alloc, "timeout", "SECONDS", TIMEOUT, 1, MAX_SECONDS))?
+        .arg(flag(alloc, "json", JSON))?
         .arg(Arg::new(alloc, "FILE").help(LINES))
 }
 
@@ -185,6 +190,7 @@ pub(crate) fn connecting_in<'a>(
         log: text_if_given(found, "log"),
         wait_seconds: number_in(found, "wait", 0, MAX_SECONDS, 0),
         timeout_seconds: number_in(found, "timeout", 1, MAX_SECONDS, DEFAULT_TIMEOUT_SECONDS),
+        is_json: flag_in(found, "json"),
         input: source_in(found),
     })
 }

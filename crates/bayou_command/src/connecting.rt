@@ -26,6 +26,8 @@ pub struct Connecting<'a> {
     pub wait_seconds: u32,
     /// How many seconds a server has for its connection and its whole reply.
     pub timeout_seconds: u32,
+    /// Whether `list`, `servers` and `mine` print JSON objects.
+    pub is_json: bool,
     /// Where the lines come from.
     pub input: Source<'a>,
     pub ghost count_in_range: { ForSome count (λ number. (0 < number) × (number ≤ SERVERS)) },

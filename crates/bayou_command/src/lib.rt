@@ -8,7 +8,7 @@
 ghost use Rattle.std.specs.Prelude.{◌≡◌, ◌∷◌, ◌++◌, [], ℕ, IfOk, List, Some, codes, false, map, true};
 ghost use Rattle.clap.specs.declared.builder.command.Command.TheViews.{out-Command as fields_of};
 ghost use Rattle.clap.specs.Words.{app_of, found_of, kind_of, rows_of, rule_of, subcommand_rows_of};
-ghost use Rattle.bayou_command.specs.Words.{AskFor, Names, a_check, a_connect, a_key, a_net, a_renewal, a_run, a_serve, a_web, an_audit, an_explanation, an_export, an_import, asked_beside, asked_by, asked_named, asked_of_person, bayou_app, faults_of, file, folder_of, folder_rule, input_of, input_seen, main_app, net_app, run_app, standard, task_seen};
+ghost use Rattle.bayou_command.specs.Words.{AskFor, Names, a_check, a_connect, a_json_run, a_key, a_net, a_renewal, a_run, a_serve, a_web, an_audit, an_explanation, an_export, an_import, asked_beside, asked_by, asked_named, asked_of_person, bayou_app, faults_of, file, folder_of, folder_rule, input_of, input_seen, main_app, net_app, standard, task_seen};
 ghost use Rattle.bayou_command.specs.Rows.{TakesNumbers, audit_words, bare_export, check_words, connect_with, connect_words, explained_audit, export_words, import_with, import_words, key_words, plain_check, plain_connection, plain_import, plain_renewal, plain_service, renew_with, renew_words, serve_with, serve_words, plain_web, web_with, web_words};
 ghost use Rattle.bayou_command.specs.Inner.Stops.{StopsAt};
 
@@ -26,6 +26,7 @@ mod key;
 mod options;
 mod renew;
 mod renewing;
+mod run;
 mod serve;
 mod serving;
 mod showing;
@@ -48,6 +49,7 @@ use key::key_command;
 use options::text_in;
 use renew::{renew_command, renewing_in};
 pub use renewing::Renewing;
+use run::{RUN_FILE, run_command, running_in};
 use serve::{serve_command, serving_in};
 pub use serving::Serving;
 pub use showing::Showing;
@@ -101,10 +103,6 @@ docs/TROUBLE.md says what to do about each fault; examples/ has scripts and audi
 
 // The version, and the logic that each function is proved in, as the prover names it.
 const VERSION: &str = "0.1.0 (logic dac8208d650f15bf)";
-
-const RUN_ABOUT: &str = "Reads a script, checks it, and prints a line for each answer.";
-
-const RUN_FILE: &str = "The script; without it, and where it is -, the standard input";
 
 const NET_ABOUT: &str =
     "Runs a script over sockets, with a thread for each session and journals in files.";
@@ -163,67 +161,6 @@ journal that can't be opened, is another server's or in use by another run), the
 Pages: docs/NET.md (two servers on one machine, their journals, each fault), docs/FORMATS.md (lines in and out), docs/GUARANTEES.md
 (what a session may ask for), docs/TROUBLE.md (reopen, and what to do about each fault), examples/net/ (scripts)."#;
 
-const RUN_FORM: &str =
-    r#"Each line is a JSON array, and an empty line is skipped. The first starts the servers; the others follow in any order. I is a
-session (0 to 31), S a server. Below each form stands an example.
-
-  ["servers",N]  ["servers",N,LIMIT]  starts servers 0 to N-1 (N 1 to 16); each holds LIMIT Writes at the most (4096)
-      ["servers",2,100]
-  ["session",I,ASKS]     opens session I, which asks for these guarantees: any of "ryw", "mr", "wfr", "mw"
-      ["session",0,["ryw","mr"]]
-  ["write",I,S,PROGRAM]  session I writes at server S
-      ["write",0,0,{"update":[["put","room",1]]}]
-  ["read",I,S,KEY]       session I reads a key at server S
-      ["read",0,1,"room"]
-  ["drop",I]             drops the reply to the operation that session I tries next: `I lost` is printed, whatever the server did
-      ["drop",0]
-      ["write",0,0,{"update":[["put","desk",2]]}]
-  ["again",I]            session I asks its last Write again, at the same server, which makes no second one of it; nothing is asked where
-                         the session heard that it was accepted, or tried a read since
-      ["again",0]
-  ["log",S]              lists the Writes that server S holds, in stamp order, each with what became of it
-      ["log",0]
-  ["fuse",S,CALL,KEPT]   the device of server S fails, once, at this call from now (1 to 1000); of an append's bytes the
-                         first KEPT are added (0 to 8192)
-      ["fuse",0,2,0]
-  ["lose",S,COUNT]       the device of server S loses its last bytes (0 to 1000000000)
-      ["lose",0,1]
-  ["reopen",S]           server S, which a fault of its device took down, opens its journal again
-      ["reopen",0]
-  ["restart",S]          server S is stopped, and started on what its device has
-      ["restart",0]
-  ["pull",TO,FROM]  ["pull",TO,FROM,ITEMS]  server TO takes what it lacks of the Writes that server FROM holds; with ITEMS the
-                         stream is cut after so many of them (0 to 65536)
-      ["pull",1,0]
-  ["resend",TO,FROM]     server TO is sent all the Writes that server FROM holds
-      ["resend",1,0]
-  ["totals"]             how many reads, Writes and refusals were filed in the book of what was served
-      ["totals"]
-  ["judge"]              whether each session had what it asked for so far, judged from that book and what the servers hold now
-      ["judge"]
-  ["survey"]             what became of each guarantee in each session so far, asked for or not
-      ["survey"]
-  ["book"]               prints the audit file of the run so far: that book, and what the servers hold (bayou audit --help)
-      ["book"]
-  ["phase"]              ends a phase; nothing happens here, and nothing is printed
-      ["phase"]
-
-PROGRAM is {"check":[COND,..],"update":[OP,..],"merge":[{"when":[COND,..],"ops":[OP,..]},..]}; a list may be missing.
-Where every COND of check holds, update is applied, whole or not at all; else the first part of merge that fits.
-COND  ["equals",KEY,VALUE]  ["absent",KEY]  ["atleast",KEY,NUMBER]  ["atmost",PREFIX,COUNT]
-OP    ["put",KEY,TERM]  ["del",KEY]
-TERM  VALUE  ["copy",KEY]  ["plus",KEY,NUMBER]
-A KEY has 1 to 32 bytes of a-z 0-9 . _ - /, a PREFIX of keys 0 to 32; a VALUE is an integer, or a text of up to 32 bytes. An atmost
-holds where at most COUNT (0 to 4294967295) keys that have a value begin with the PREFIX.
-
-Nothing is printed before the whole script was read and found good. A fault is one line on standard error.
-Exit status: 0 the script was run; 1 a verdict (judge) was broken; 2 the script or the command line is refused, or a verdict or a
-survey was; 3 memory, a device as the script begins, the input or the output failed.
-
-Pages: docs/LANGUAGE.md (programs), docs/GUARANTEES.md (what a session may ask for; pull, resend), docs/FORMATS.md (lines in and out),
-docs/AUDIT.md (totals, judge, survey, book), docs/TROUBLE.md (fuse, reopen, restart, again, and what to do about each fault),
-examples/README.md (scripts)."#;
-
 /// What the names of scripts and of audit files end with.
 const LINES_END: &str = ".jsonl";
 
@@ -241,6 +178,8 @@ pub enum Source<'a> {
 pub enum Task<'a> {
     /// To run the script that is there.
     Run(Source<'a>),
+    /// To run it, and to print its answers as JSON objects.
+    RunAsJson(Source<'a>),
     /// To audit the file that is there.
     Audit(Source<'a>),
     /// To audit it, and to tell more of it.
@@ -301,17 +240,6 @@ impl Stop {
             Err(_) => Stop::Memory,
         }
     }
-}
-
-fn run_command<'a>(alloc: Global) -> Result<Command<'a>, AllocError>
-    ensures app { IfOk result (λ command. app_of command ≡ run_app) }
-    ensures local { IfOk result (λ command. (fields_of command).has_globals ≡ false) }
-{
-    let file = Arg::new(alloc, "FILE").help(RUN_FILE);
-    Command::new(alloc, "run")
-        .about(RUN_ABOUT)
-        .after_help(RUN_FORM)
-        .arg(file)
 }
 
 pub(crate) fn folder_option<'a>(alloc: Global) -> Arg<'a>
@@ -395,7 +323,7 @@ fn task_beside<'a>(
         "export" => Task::Export(exporting_in(alloc, found)?),
         "import" => Task::Import(importing_in(alloc, found)?),
         "check" => Task::Check(checking_in(found)),
-        _ => Task::Run(source_in(found)),
+        _ => running_in(found),
     })
 }
 
@@ -484,8 +412,8 @@ fn with_tip(alloc: Global, stop: Stop, file: Option<&str>) -> Stop
     }
 }
 
-/// A law: `bayou run`, `bayou run -` and `bayou run FILE` ask for a run, of the standard input or of the file, `bayou audit FILE` and
-/// `bayou audit -` for an audit, and `bayou net --dir D`, with the same words for its input and in any order, for a run over sockets with the
+/// A law: `bayou run`, `bayou run -` and `bayou run FILE` ask for a run, of the standard input or of the file, and with `--json`, before or after it, for one
+/// whose answers are JSON objects; `bayou audit FILE` and `bayou audit -` ask for an audit, and `bayou net --dir D`, with the same words for its input and in any order, for a run over sockets with the
 /// journals in the folder D. Without a folder, or with one that has no name, `bayou net` is refused.
 /// `bayou serve` with the options that it must have asks for a server that lives: with the numbers that it has without their options, and with
 /// each other option as it is given, in any order. Without one of those that it must have, with a number out of its range, with one of them
@@ -494,6 +422,10 @@ pub fn commands_are_named()
     ensures run { AskFor (codes "bayou" ∷ codes "run" ∷ []) (a_run standard) }
     ensures run_dash { AskFor (codes "bayou" ∷ codes "run" ∷ codes "-" ∷ []) (a_run standard) }
     ensures run_file { AskFor (codes "bayou" ∷ codes "run" ∷ codes "a.jsonl" ∷ []) (a_run (file (codes "a.jsonl"))) }
+    ensures run_json { AskFor (codes "bayou" ∷ codes "run" ∷ codes "--json" ∷ codes "a.jsonl" ∷ []) (a_json_run (file (codes "a.jsonl"))) }
+    ensures run_json_turned { AskFor (codes "bayou" ∷ codes "run" ∷ codes "-" ∷ codes "--json" ∷ []) (a_json_run standard) }
+    ensures run_json_bare { AskFor (codes "bayou" ∷ codes "run" ∷ codes "--json" ∷ []) (a_json_run standard) }
+    ensures run_json_twice { faults_of (codes "bayou" ∷ codes "run" ∷ codes "--json" ∷ codes "--json" ∷ []) ≡ ErrorKind.ArgumentConflict ∷ [] }
     ensures audit { AskFor (codes "bayou" ∷ codes "audit" ∷ codes "a.jsonl" ∷ []) (an_audit (file (codes "a.jsonl"))) }
     ensures audit_dash { AskFor (codes "bayou" ∷ codes "audit" ∷ codes "-" ∷ []) (an_audit standard) }
     ensures net { AskFor (codes "bayou" ∷ codes "net" ∷ codes "--dir" ∷ codes "d" ∷ []) (a_net (codes "d") standard) }
@@ -503,6 +435,7 @@ pub fn commands_are_named()
     ensures net_turned { AskFor (codes "bayou" ∷ codes "net" ∷ codes "a.jsonl" ∷ codes "--dir" ∷ codes "d" ∷ []) (a_net (codes "d") (file (codes "a.jsonl"))) }
     ensures net_bare { faults_of (codes "bayou" ∷ codes "net" ∷ []) ≡ ErrorKind.MissingRequiredArgument ∷ [] }
     ensures net_nowhere { faults_of (codes "bayou" ∷ codes "net" ∷ codes "--dir" ∷ [] ∷ []) ≡ ErrorKind.InvalidValue ∷ [] }
+    ensures net_json { faults_of (codes "bayou" ∷ codes "net" ∷ codes "--dir" ∷ codes "d" ∷ codes "--json" ∷ []) ≡ ErrorKind.UnknownArgument ∷ [] }
     ensures serve { AskFor (serve_with []) (a_serve plain_service) }
     ensures serve_joined { AskFor (serve_words (codes "--listen=h:1" ∷ codes "--dir=d" ∷ codes "--servers=3" ∷ codes "--id=1" ∷ [])) (a_serve plain_service) }
     ensures serve_peers { AskFor (serve_with (codes "--peer" ∷ codes "0=h:2" ∷ codes "--peer" ∷ codes "2=h:3" ∷ [])) (a_serve (record plain_service { peers = codes "0=h:2" ∷ codes "2=h:3" ∷ [] })) }
@@ -577,6 +510,7 @@ pub fn connections_are_named()
     ensures state { AskFor (connect_with (codes "--state" ∷ codes "s" ∷ [])) (a_connect (record plain_connection { state = Some (codes "s") })) }
     ensures book { AskFor (connect_with (codes "--book" ∷ codes "b" ∷ [])) (a_connect (record plain_connection { book = Some (codes "b") })) }
     ensures log { AskFor (connect_with (codes "--log" ∷ codes "l" ∷ [])) (a_connect (record plain_connection { log = Some (codes "l") })) }
+    ensures json { AskFor (connect_with (codes "--json" ∷ [])) (a_connect (record plain_connection { is_json = true })) }
     ensures wait { AskFor (connect_with (codes "--wait" ∷ codes "5" ∷ [])) (a_connect (record plain_connection { wait_seconds = 5 })) }
     ensures timeout { AskFor (connect_with (codes "--timeout" ∷ codes "5" ∷ [])) (a_connect (record plain_connection { timeout_seconds = 5 })) }
     ensures named { AskFor (connect_with (codes "a.txt" ∷ [])) (a_connect (record plain_connection { input = file (codes "a.txt") })) }
@@ -603,6 +537,7 @@ pub fn connections_are_named()
     ensures state_twice { faults_of (connect_with (codes "--state" ∷ codes "s" ∷ codes "--state" ∷ codes "s" ∷ [])) ≡ ErrorKind.ArgumentConflict ∷ [] }
     ensures book_twice { faults_of (connect_with (codes "--book" ∷ codes "b" ∷ codes "--book" ∷ codes "b" ∷ [])) ≡ ErrorKind.ArgumentConflict ∷ [] }
     ensures log_twice { faults_of (connect_with (codes "--log" ∷ codes "l" ∷ codes "--log" ∷ codes "l" ∷ [])) ≡ ErrorKind.ArgumentConflict ∷ [] }
+    ensures json_twice { faults_of (connect_with (codes "--json" ∷ codes "--json" ∷ [])) ≡ ErrorKind.ArgumentConflict ∷ [] }
     ensures wait_twice { faults_of (connect_with (codes "--wait" ∷ codes "5" ∷ codes "--wait" ∷ codes "5" ∷ [])) ≡ ErrorKind.ArgumentConflict ∷ [] }
     ensures timeout_twice { faults_of (connect_with (codes "--timeout" ∷ codes "5" ∷ codes "--timeout" ∷ codes "5" ∷ [])) ≡ ErrorKind.ArgumentConflict ∷ [] }
     ensures two_files { faults_of (connect_with (codes "a.txt" ∷ codes "b.txt" ∷ [])) ≡ ErrorKind.UnknownArgument ∷ [] }

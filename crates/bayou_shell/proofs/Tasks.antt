@@ -1,7 +1,7 @@
 -- What words ask for, and what becomes of it.
 use Rattle.std.proofs.Common.{◌≡◌, ◌<◌, ◌≤◌, ◌∙◌, ℕ, Bool, List, [], Option, None, Some, IfSome, IfErr, Result, Ok, Err, ap, arith, inl, refl, subst, sym}
 use Rattle.std.proofs.KnownBytes.{Keeps-refl}
-use Rattle.bayou_command.specs.Words.{AreMistaken, AskFor, AskForText, Asked, Input as Named, a_check, a_connect, a_key, a_net, a_renewal, a_run, a_serve, a_web, an_audit, an_explanation, an_export, an_import, file, standard}
+use Rattle.bayou_command.specs.Words.{AreMistaken, AskFor, AskForText, Asked, Input as Named, a_check, a_connect, a_json_run, a_key, a_net, a_renewal, a_run, a_serve, a_web, an_audit, an_explanation, an_export, an_import, file, standard}
 use Rattle.bayou_print.specs.declared.ended.Ended.{Ended}
 use Rattle.bayou_print.specs.declared.fault.RunFault.{RunFault}
 use Rattle.bayou_print.specs.declared.fault.RunFault.TheVariants.{Line, Memory, Device, Network, Input, Output}
@@ -44,6 +44,7 @@ works_so (Some text) asked came errand old new read_fails write_fails reads writ
 
 pub kept : (asked : Asked) (text : List ℕ) (contents : Option (List ℕ)) → Works asked text (Err Memory) contents contents
 kept (a_run source) text contents = (Err Memory, inl (Keeps-refl contents), refl)
+kept (a_json_run source) text contents = (Err Memory, inl (Keeps-refl contents), refl)
 kept (an_audit source) text contents = (Err Memory, inl (Keeps-refl contents), refl)
 kept (a_net folder source) text contents = (tt, Keeps-refl contents)
 kept (a_serve service) text contents = (refl, Keeps-refl contents)

@@ -9,7 +9,7 @@ use Rattle.bayou_command.specs.Import.{Import as Lines}
 use Rattle.bayou_command.specs.Web.{Web as Shown}
 use Rattle.bayou_command.specs.Renew.{Renewal as Asking}
 use Rattle.bayou_command.specs.Serve.{Service}
-use Rattle.bayou_command.specs.Words.{AreMistaken, AskForText, Asked, Input, a_check, a_connect, a_key, a_net, a_renewal, a_run, a_serve, a_web, an_audit, an_explanation, an_export, an_import, standard}
+use Rattle.bayou_command.specs.Words.{AreMistaken, AskForText, Asked, Input, a_check, a_connect, a_json_run, a_key, a_net, a_renewal, a_run, a_serve, a_web, an_audit, an_explanation, an_export, an_import, standard}
 use Rattle.bayou_print.specs.declared.ended.Ended.{Ended}
 use Rattle.bayou_print.specs.declared.fault.RunFault.{RunFault}
 use Rattle.bayou_print.specs.declared.fault.RunFault.TheVariants.{Line, Memory, Device, Network, Output}
@@ -27,6 +27,7 @@ use Rattle.bayou_shell.specs.Net.{NetsAs}
 use Rattle.bayou_errands.specs.Plans.{IsCallOf, IsKeyOf, IsServiceOf}
 use Rattle.bayou_errands.specs.Renewals.{IsRenewalOf}
 use Rattle.bayou_tasks.specs.Run.{RunsAs}
+use Rattle.bayou_tasks.specs.declared.form.AnswerForm.TheVariants as form
 use Rattle.bayou_shell.specs.declared.errand.Errand.{Errand}
 use Rattle.bayou_shell.specs.declared.errand.Errand.TheVariants.{Check, Connect, Done, Explain, Export, Import, Key, Net, Renew, Serve, Web}
 use Rattle.bayou_streams.specs.Account.{Account}
@@ -205,7 +206,8 @@ ExplainsTextAs wanted (Err fault) old new = (fault ≡ Memory) × Keeps old new
 
 -- what becomes of what is asked for on an input of these bytes
 abbrev pub Works : Asked → List ℕ → Result Errand RunFault → (old new : Option (List ℕ)) → Type 0
-Works (a_run source) input came old new = Ends (RunsAs input) came old new
+Works (a_run source) input came old new = Ends (RunsAs form.Lines input) came old new
+Works (a_json_run source) input came old new = Ends (RunsAs form.Objects input) came old new
 Works (an_audit source) input came old new = Ends (AuditsAs input) came old new
 Works (a_net folder source) input came old new = NetsAs folder input came old new
 Works (a_serve service) input came old new = ServesAs service came old new
@@ -239,6 +241,7 @@ IsWell (Explain explaining) = Unit {0}
 
 abbrev pub input_of_asked : Asked → Input
 input_of_asked (a_run source) = source
+input_of_asked (a_json_run source) = source
 input_of_asked (an_audit source) = source
 input_of_asked (a_net folder source) = source
 input_of_asked (a_serve service) = standard

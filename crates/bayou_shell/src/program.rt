@@ -28,6 +28,7 @@ use bayou_streams::{CountedChannel, Output};
 use bayou_tasks::audit::run_audit;
 use bayou_tasks::checked::Checkup;
 use bayou_tasks::explained::Explaining;
+use bayou_tasks::form::AnswerForm;
 use bayou_tasks::run::run_script;
 use bayou_tasks::telling::tell;
 use std::alloc::Global;
@@ -71,7 +72,7 @@ fn source_of<'a>(task: &Task<'a>) -> Source<'a>
     ensures { input_seen result ≡ input_of_asked (task_seen task.now) }
 {
     match task {
-        Task::Run(source) | Task::Audit(source) => *source,
+        Task::Run(source) | Task::RunAsJson(source) | Task::Audit(source) => *source,
         Task::Net { script, .. } => *script,
         Task::Serve(_) | Task::Connect(_) | Task::Key { .. } => Source::Standard,
         Task::Renew(_) | Task::Export(_) | Task::Import(_) => Source::Standard,
@@ -103,7 +104,8 @@ fn work<R: Read, W: Write>(
     ensures paid { Pays (account W.contents output.old) (account W.contents output.new) (cut_lines result) }
 {
     match task {
-        Task::Run(_) => done(run_script(alloc, input, output)),
+        Task::Run(_) => done(run_script(alloc, AnswerForm::Lines, input, output)),
+        Task::RunAsJson(_) => done(run_script(alloc, AnswerForm::Objects, input, output)),
         Task::Audit(_) => done(run_audit(alloc, input, output)),
         Task::Net { folder, .. } => read_net(alloc, folder, input),
         Task::Serve(serving) => Ok(Errand::Serve(Service::of(alloc, &serving)?)),

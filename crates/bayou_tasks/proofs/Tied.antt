@@ -11,6 +11,7 @@ use Rattle.bayou_print.specs.Fault.{answer_status, answers_status, ended_status}
 use Rattle.bayou_runs.specs.Runs.{AreClean, IsInRange, IsPlain, RestartsWhole, TellsClean, ToldByRun, asks_in}
 use Rattle.bayou_script.specs.Script.{IsScript, Plan}
 use Rattle.bayou_text.specs.Said.{Said, servers, session, write, read, again, drop, log, fuse, lose, reopen, restart, pull, resend, totals, judge, survey, book, phase, entry, held}
+use Rattle.bayou_tasks.specs.declared.form.AnswerForm.{AnswerForm}
 use Rattle.bayou_tasks.specs.Run.{AreTold, Prints, PrintsPart, PrintsPartTold, PrintsTold}
 
 -- what the law of scripts says
@@ -48,8 +49,8 @@ are_told law lines plan script in_range many first last answers new run number w
           (subst (λ list. ScriptRun first list (take number answers) front.0) same front.1) (subst RestartsWhole same whole)),
     )
 
-pub part_told : IsLaw → (lines : List (List ℕ)) (plan : Plan) → IsScript lines plan → IsInRange plan → (text : List ℕ) → PrintsPart plan text → PrintsPartTold plan text
-part_told law lines plan script in_range text part = record {
+pub part_told : IsLaw → (form : AnswerForm) (lines : List (List ℕ)) (plan : Plan) → IsScript lines plan → IsInRange plan → (text : List ℕ) → PrintsPart form plan text → PrintsPartTold form plan text
+part_told law form lines plan script in_range text part = record {
   prints = part;
   told = are_told law lines plan script in_range part.number part.first part.last part.answers part.begun part.run;
 }
@@ -106,8 +107,8 @@ no_status ended_as.Clean none = refl
 no_status ended_as.Broken none = absurd (cc)
 no_status ended_as.Refused none = absurd (cc)
 
-pub whole_told : IsLaw → (lines : List (List ℕ)) (plan : Plan) → IsScript lines plan → IsInRange plan → (ended : Ended) (text : List ℕ) → Prints plan ended text → PrintsTold plan ended text
-whole_told law lines plan script in_range ended text all =
+pub whole_told : IsLaw → (form : AnswerForm) (lines : List (List ℕ)) (plan : Plan) → IsScript lines plan → IsInRange plan → (ended : Ended) (text : List ℕ) → Prints form plan ended text → PrintsTold form plan ended text
+whole_told law form lines plan script in_range ended text all =
     let many = length plan.commands in
     let same : take many plan.commands ≡ plan.commands = take_all many plan.commands (omega arith) in
     let run = subst (λ commands. ScriptRun all.first commands all.answers all.last) (sym same) all.run in

@@ -18,6 +18,7 @@
 pub mod audit;
 pub mod checked;
 pub mod explained;
+pub mod form;
 pub mod reading;
 pub mod run;
 pub mod telling;
@@ -25,4 +26,5 @@ pub mod telling;
 pub use audit::run_audit;
 pub use checked::{Checkup, check_input, run_checked};
 pub use explained::{Beside, Explaining, Outcome, explain_input, run_explained};
+pub use form::AnswerForm;
 pub use run::run_script;

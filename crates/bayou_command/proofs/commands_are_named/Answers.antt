@@ -205,3 +205,23 @@ returns-clause-serve_key_unnamed c = refl
 pub returns-clause-serve_key_twice : goal.returns-clause-serve_key_twice
 unfolding clap_on_literals
 returns-clause-serve_key_twice c = refl
+
+pub returns-clause-run_json : goal.returns-clause-run_json
+unfolding clap_on_literals
+returns-clause-run_json c = record { good = refl; entered = refl }
+
+pub returns-clause-run_json_turned : goal.returns-clause-run_json_turned
+unfolding clap_on_literals
+returns-clause-run_json_turned c = record { good = refl; entered = refl }
+
+pub returns-clause-run_json_bare : goal.returns-clause-run_json_bare
+unfolding clap_on_literals
+returns-clause-run_json_bare c = record { good = refl; entered = refl }
+
+pub returns-clause-run_json_twice : goal.returns-clause-run_json_twice
+unfolding clap_on_literals
+returns-clause-run_json_twice c = refl
+
+pub returns-clause-net_json : goal.returns-clause-net_json
+unfolding clap_on_literals
+returns-clause-net_json c = refl

@@ -157,3 +157,11 @@ returns-clause-log_unnamed c = refl
 pub returns-clause-log_twice : goal.returns-clause-log_twice
 unfolding clap_on_literals
 returns-clause-log_twice c = refl
+
+pub returns-clause-json : goal.returns-clause-json
+unfolding clap_on_literals
+returns-clause-json c = record { good = refl; entered = refl }
+
+pub returns-clause-json_twice : goal.returns-clause-json_twice
+unfolding clap_on_literals
+returns-clause-json_twice c = refl

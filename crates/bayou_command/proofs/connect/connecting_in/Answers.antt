@@ -15,6 +15,7 @@ returns c =
       log = c.text_if_given-5.ensures i;
       wait_seconds = c.number_in.ensures.value i;
       timeout_seconds = c.number_in-2.ensures.value i;
+      is_json = c.flag_in.ensures i;
       input = c.source_in.ensures i;
     } in
     same

@@ -12,9 +12,10 @@ returns-clause-app c =
     let third = c.in_ok-arg-3.ensures.shape c.file_option-3.ensures.local ∙ ap₂ with_rule second c.file_option-3.ensures.rule in
     let fourth = c.in_ok-arg-4.ensures.shape c.number_option.ensures.local ∙ ap₂ with_rule third c.number_option.ensures.rule in
     let fifth = c.in_ok-arg-5.ensures.shape c.number_option-2.ensures.local ∙ ap₂ with_rule fourth c.number_option-2.ensures.rule in
+    let sixth = c.in_ok-arg-6.ensures.shape c.flag.ensures.local ∙ ap₂ with_rule fifth c.flag.ensures.rule in
     let file : rule_of c.help.result ≡ file_rule = search rules in
     let free : c.help.result.global ≡ false = search rules in
-    IfOk-weaker c.arg-6.result _ _ (λ made h. h.shape free ∙ ap₂ with_rule fifth file) c.arg-6.ensures
+    IfOk-weaker c.arg-7.result _ _ (λ made h. h.shape free ∙ ap₂ with_rule sixth file) c.arg-7.ensures
 
 pub returns-clause-local : goal.returns-clause-local
 returns-clause-local c =
@@ -24,4 +25,5 @@ returns-clause-local c =
     let third = c.in_ok-arg-3.ensures.globals ∙ stays_local _ _ c.file_option-3.ensures.local ∙ second in
     let fourth = c.in_ok-arg-4.ensures.globals ∙ stays_local _ _ c.number_option.ensures.local ∙ third in
     let fifth = c.in_ok-arg-5.ensures.globals ∙ stays_local _ _ c.number_option-2.ensures.local ∙ fourth in
-    IfOk-weaker c.arg-6.result _ _ (λ made h. h.globals ∙ stays_local _ _ free ∙ fifth) c.arg-6.ensures
+    let sixth = c.in_ok-arg-6.ensures.globals ∙ stays_local _ _ c.flag.ensures.local ∙ fifth in
+    IfOk-weaker c.arg-7.result _ _ (λ made h. h.globals ∙ stays_local _ _ free ∙ sixth) c.arg-7.ensures

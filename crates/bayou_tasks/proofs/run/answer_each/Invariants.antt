@@ -7,7 +7,7 @@ use Rattle.bayou_tasks.proofs.run.answer_each.Given as goal
 
 abbrev pub invariant-loop-command : goal.invariant-loop-command
 invariant-loop-command g l = record {
-  so_far : SoFar (plan_of l.fn.script) l.ended l.machine l.commands.items (stage g.W.Write.contents l.initial.output l.initial.waiting)
+  so_far : SoFar l.fn.form (plan_of l.fn.script) l.ended l.machine l.commands.items (stage g.W.Write.contents l.initial.output l.initial.waiting)
       (stage g.W.Write.contents l.output l.waiting);
   ready : l.initial.output.channel.turns_left ≤ l.output.channel.turns_left;
 }

@@ -9,19 +9,19 @@ pub returns-in_err-script-clause-runs : goal.returns-in_err-script-clause-runs
 returns-in_err-script-clause-runs g c =
     let p = err_from_is_err_and c.from_residual.result c.from_residual.ensures.1 in
     rw (p.1, p.2)
-    (RunsAs-unread (g.R.Read.remaining c.args.input.now.reader) (g.W.Write.contents c.args.output.now.channel.writer) c.in_err-script.field-0.0 c.in_err-script.ensures.fault)
+    (RunsAs-unread c.args.form (g.R.Read.remaining c.args.input.now.reader) (g.W.Write.contents c.args.output.now.channel.writer) c.in_err-script.field-0.0 c.in_err-script.ensures.fault)
 
 pub returns-clause-runs : goal.returns-clause-runs
 returns-clause-runs g c =
     let servers = c.in_ok-script.script.servers in
-    RunsAs-script c.a_script_is_a_run.ensures (g.R.Read.remaining c.args.input.now.reader) (account g.W.Write.contents c.args.output.now) (account g.W.Write.contents c.answer_all.new.output)
+    RunsAs-script c.a_script_is_a_run.ensures c.args.form (g.R.Read.remaining c.args.input.now.reader) (account g.W.Write.contents c.args.output.now) (account g.W.Write.contents c.answer_all.new.output)
     (plan_of c.in_ok-script.script) (record { some = servers.count_in_range.0; count = servers.count_in_range.1; limit = servers.limit_in_range.1 }) c.answer_all.result c.in_ok-script.ensures.script c.answer_all.ensures.ok c.answer_all.ensures.err
 
 pub returns-in_err-machine-clause-runs : goal.returns-in_err-machine-clause-runs
 returns-in_err-machine-clause-runs g c =
     let p = err_from_is_err_and c.from_residual-in_err-machine.result c.from_residual-in_err-machine.ensures.1 in
     rw (p.1, p.2)
-    (RunsAs-unbegun (g.R.Read.remaining c.args.input.now.reader) (g.W.Write.contents c.args.output.now.channel.writer) (plan_of c.in_ok-script.script)
+    (RunsAs-unbegun c.args.form (g.R.Read.remaining c.args.input.now.reader) (g.W.Write.contents c.args.output.now.channel.writer) (plan_of c.in_ok-script.script)
     c.in_err-machine.field-0.0 c.in_ok-script.ensures.script c.in_err-machine.ensures.fault)
 
 pub returns-in_err-machine-clause-read : goal.returns-in_err-machine-clause-read
@@ -36,12 +36,12 @@ returns-in_err-machine-clause-written g c =
 
 pub returns-clause-paid : goal.returns-clause-paid
 returns-clause-paid g c =
-    run_paid (plan_of c.in_ok-script.script) (account g.W.Write.contents c.args.output.now) (account g.W.Write.contents c.answer_all.new.output) c.answer_all.result
+    run_paid c.args.form (plan_of c.in_ok-script.script) (account g.W.Write.contents c.args.output.now) (account g.W.Write.contents c.answer_all.new.output) c.answer_all.result
     c.args.output.now.channel.in_budget c.answer_all.ensures.ok c.answer_all.ensures.err c.answer_all.ensures.ready
 
 pub returns-clause-read : goal.returns-clause-read
 returns-clause-read g c =
-    run_reads _ _ (plan_of c.in_ok-script.script) (account g.W.Write.contents c.args.output.now) (account g.W.Write.contents c.answer_all.new.output) c.answer_all.result
+    run_reads c.args.form _ _ (plan_of c.in_ok-script.script) (account g.W.Write.contents c.args.output.now) (account g.W.Write.contents c.answer_all.new.output) c.answer_all.result
     c.answer_all.ensures.err
 
 pub returns-clause-written : goal.returns-clause-written

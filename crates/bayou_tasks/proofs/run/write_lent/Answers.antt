@@ -2,7 +2,7 @@ use Rattle.std.proofs.Common.{List, ℕ, [], refl, subst}
 use Rattle.std.proofs.lemmas.Result.{err_from_is_err_and}
 use Rattle.bayou_answers.specs.declared.answer.Answer.TheVariants.{Booked}
 use Rattle.bayou_print.specs.Waiting.{Gathers, stage}
-use Rattle.bayou_tasks.proofs.Lent.{lent_text}
+use Rattle.bayou_tasks.proofs.Lent.{lent_told}
 use Rattle.bayou_tasks.proofs.run.write_lent.Goals as goal
 
 pub returns-in_err-write_book-clause-answered : goal.returns-in_err-write_book-clause-answered
@@ -18,7 +18,7 @@ returns-in_err-write_book-clause-answered g c =
         c.in_err-write_book.ensures.fault,
         missing,
         subst (λ (text : List ℕ). Gathers (now c.args.output.now c.args.waiting.now) (now c.write_book.new.output c.write_book.new.waiting) text missing)
-            (lent_text c.args.servers.count file c.lend-lent.result c.deref.result.now lends c.deref.ensures.0) some,
+            (lent_told c.args.printing.form c.args.printing.servers.count file c.lend-lent.result lends) some,
       ),
     )
 
@@ -31,6 +31,6 @@ returns-clause-answered g c =
       (
         refl,
         subst (λ (text : List ℕ). Gathers (now c.args.output.now c.args.waiting.now) (now c.write_book.new.output c.write_book.new.waiting) text [])
-            (lent_text c.args.servers.count file c.lend-lent.result c.deref.result.now lends c.deref.ensures.0) c.in_ok-write_book.ensures.whole,
+            (lent_told c.args.printing.form c.args.printing.servers.count file c.lend-lent.result lends) c.in_ok-write_book.ensures.whole,
       ),
     )
