@@ -24,6 +24,7 @@ from greeting import Answering, LosesReply
 from listing import Paging, full, page, with_outcomes
 from living import SECONDS, Server, slowness
 from meeting import HELLO, free_port, is_greeting, reply_to_greeting
+from objects import Objects
 from standings import Standings
 from ways import AtRandom
 
@@ -175,7 +176,7 @@ def without_standings(lines):
     return [re.sub(r"^([a-z0-9._/-]+ (?:num|text) .*) (?:tentative|final)$", r"\1", line) for line in lines if not re.fullmatch(STANDING, line)]
 
 
-class Tries(Standings):
+class Tries(Standings, Objects):
     def __init__(self, program, room):
         self.program, self.room, self.checks = program, room, Checks()
         self.servers = []
@@ -1079,7 +1080,7 @@ class Tries(Standings):
         self.that("server %d is apart again" % to, again.serving() is not None)
 
 
-GROUPS = ["words", "logged", "lines", "values", "claims", "additions", "words_of_lines", "silent", "dripped", "unbelievable", "pages", "never_back", "in_python", "outcomes", "turns", "lost", "asks", "lists", "guarantees_alone", "kept", "grown", "killed", "finals", "out_of_order", "one_room", "one_room_killed", "killed_waiting", "forgotten", "guarantees", "drawn", "strangers", "keyed", "full", "calendar"]
+GROUPS = ["words", "logged", "lines", "values", "claims", "additions", "words_of_lines", "silent", "dripped", "unbelievable", "pages", "never_back", "in_python", "outcomes", "turns", "lost", "asks", "lists", "guarantees_alone", "kept", "grown", "killed", "finals", "objects", "out_of_order", "one_room", "one_room_killed", "killed_waiting", "forgotten", "guarantees", "drawn", "strangers", "keyed", "full", "calendar"]
 
 
 def main():

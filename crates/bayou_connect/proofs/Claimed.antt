@@ -7,7 +7,7 @@ use Rattle.bayou_base.specs.declared.limits.TheConstants.{SESSIONS}
 use Rattle.bayou_base.specs.declared.session.SessionId.{SessionId}
 use Rattle.bayou_base.specs.declared.value.Value.{Value}
 use Rattle.bayou_connect.specs.Claiming.{LookFree, LooksFree, TellsKey, TellsKeys}
-use Rattle.bayou_connect.specs.Listing.{PrintsRows, Row, line_of_row, standing_told}
+use Rattle.bayou_connect.specs.Listing.{PrintsRows, Row, row_told, standing_told}
 use Rattle.bayou_connect.specs.Wishing.{GetsKey, GetsKeys}
 use Rattle.bayou_connect.specs.declared.desk.Desk.{Desk}
 use Rattle.bayou_connect.specs.declared.looking.Beyond.{Beyond}
@@ -62,14 +62,15 @@ pub gets_on : (key : List ℕ) (keys : List (List ℕ)) (old got new : Desk) (be
 unfolding GetsKeys
 gets_on key keys old got new before line after one rest = (got, line, one, rest)
 
-pub prints_none : (keeps : Bool) (beyond : Option Beyond) (account : Account) → PrintsRows keeps beyond [] account account
+pub prints_none : (is_json keeps : Bool) (beyond : Option Beyond) (account : Account) → PrintsRows is_json keeps beyond [] account account
 unfolding PrintsRows
-prints_none keeps beyond account = refl
+prints_none is_json keeps beyond account = refl
 
-pub prints_on : (keeps : Bool) (beyond : Option Beyond) (row : Row) (rows : List Row) (before line after : Account)
-    → TakesBytes before line (line_of_row (standing_told keeps beyond row.0) row) → PrintsRows keeps beyond rows line after → PrintsRows keeps beyond (row ∷ rows) before after
+pub prints_on : (is_json keeps : Bool) (beyond : Option Beyond) (row : Row) (rows : List Row) (before line after : Account)
+    → TakesBytes before line (row_told is_json (standing_told keeps beyond row.0) row) → PrintsRows is_json keeps beyond rows line after
+    → PrintsRows is_json keeps beyond (row ∷ rows) before after
 unfolding PrintsRows
-prints_on keeps beyond row rows before line after one rest = (line, one, rest)
+prints_on is_json keeps beyond row rows before line after one rest = (line, one, rest)
 
 -- none is left behind the last
 pub none_left : {A : Type 0} (items : List A) (at : ℕ) → length items ≤ at → drop at items ≡ []

@@ -6,6 +6,7 @@ use Rattle.bayou_connect.specs.declared.desk.Desk.{Desk}
 -- the plan, the sessions that lines opened, and the server that is asked first stay
 pub record IsSameSeat (old new : Desk) : Type 0 where
   pub servers : new.servers ≡ old.servers
+  pub json : new.is_json ≡ old.is_json
   pub run : new.run ≡ old.run
   pub first_number : new.first_number ≡ old.first_number
   pub first : new.first ≡ old.first

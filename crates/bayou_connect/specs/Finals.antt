@@ -75,6 +75,8 @@ abbrev pub told_as : Telling → Option Standing → Option Standing
 told_as telling.News news = news
 told_as telling.All None = Some Tentative
 told_as telling.All (Some standing) = Some standing
+told_as telling.Objects None = Some Tentative
+told_as telling.Objects (Some standing) = Some standing
 
 -- whether a Write came to nothing, for good
 abbrev pub is_void_for_good : Standing → Became → Bool

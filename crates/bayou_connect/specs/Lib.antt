@@ -13,6 +13,7 @@ pub mod Found
 pub mod Importing
 pub mod Keeping
 pub mod Listing
+pub mod Objects
 pub mod Open
 pub mod Operating
 pub mod Own

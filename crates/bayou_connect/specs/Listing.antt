@@ -11,6 +11,7 @@ use Rattle.bayou_final.specs.declared.standing.Standing.{Standing}
 use Rattle.bayou_base.specs.declared.refusal.Refusal.{Refusal}
 use Rattle.bayou_base.specs.declared.session.SessionId.{SessionId}
 use Rattle.bayou_connect.specs.Finals.{keeps_finals, outlook_of}
+use Rattle.bayou_connect.specs.Objects.{lost_json, refused_json, row_json, rows_json}
 use Rattle.bayou_connect.specs.Printing.{told_text}
 use Rattle.bayou_connect.specs.declared.desk.Desk.{Desk}
 use Rattle.bayou_connect.specs.declared.listing.Rows.{Rows}
@@ -47,20 +48,39 @@ abbrev pub line_of_row : Option Standing → Row → List ℕ
 line_of_row None row = row_text row.0 (Some row.1)
 line_of_row (Some standing) row = standing_row_text row.0 (Some row.1) standing
 
+-- what is printed of it: that line, or an object
+abbrev pub row_told : (is_json : Bool) → Option Standing → Row → List ℕ
+row_told is_json standing row = if is_json then row_json row.0 row.1 standing else line_of_row standing row
+
+-- what is printed of how many rows there are, and of what was held: a line, or an object
+abbrev pub rows_told : (is_json : Bool) → (prefix : Option (List ℕ)) → (keys : ℕ) → Bool → (servers : ℕ) → (vector : List ℕ) → List ℕ
+rows_told is_json prefix keys is_mixed servers vector =
+    if is_json then rows_json prefix keys is_mixed servers vector else rows_text prefix keys is_mixed servers vector
+
+-- what is printed of a list that was refused: a line, or an object
+abbrev pub refused_told : (is_json : Bool) → (servers : ℕ) → SessionId → Refusal → List ℕ
+refused_told is_json servers who refusal =
+    if is_json then refused_json servers who.index refusal else told_text servers who None (Refused refusal)
+
+-- what is printed of a list of which nothing, or not all, came: a line, or an object
+abbrev pub lost_told : (is_json : Bool) → List ℕ
+lost_told is_json = if is_json then lost_json else LIST_LOST.now
+
 abbrev pub standing_told : (keeps_finals : Bool) → Option Beyond → (key : List ℕ) → Option Standing
 standing_told keeps_finals beyond key = if keeps_finals then Some (standing_at beyond key) else None
 
 -- the rows are printed one after another, each with how its value stands, where that is kept
-unfoldable pub PrintsRows : (keeps_finals : Bool) → Option Beyond → List Row → (before after : Account) → Type 0
-PrintsRows keeps_finals beyond [] before after = after ≡ before
-PrintsRows keeps_finals beyond (row ∷ rows) before after = (line : Account) × TakesBytes before line (line_of_row (standing_told keeps_finals beyond row.0) row)
-    × PrintsRows keeps_finals beyond rows line after
+unfoldable pub PrintsRows : (is_json keeps_finals : Bool) → Option Beyond → List Row → (before after : Account) → Type 0
+PrintsRows is_json keeps_finals beyond [] before after = after ≡ before
+PrintsRows is_json keeps_finals beyond (row ∷ rows) before after =
+    (line : Account) × TakesBytes before line (row_told is_json (standing_told keeps_finals beyond row.0) row)
+    × PrintsRows is_json keeps_finals beyond rows line after
 
 -- and after them how many there are, and what was held by the server that told them
-pub record PrintsList (keeps_finals : Bool) (servers : ℕ) (named : Option (List ℕ)) (beyond : Option Beyond) (rows : Rows) (before after : Account) : Type 0 where
+pub record PrintsList (is_json keeps_finals : Bool) (servers : ℕ) (named : Option (List ℕ)) (beyond : Option Beyond) (rows : Rows) (before after : Account) : Type 0 where
   pub line : Account
-  pub each : PrintsRows keeps_finals beyond rows.each.items before line
-  pub last : TakesBytes line after (rows_text named (length rows.each.items) rows.is_mixed servers rows.vector)
+  pub each : PrintsRows is_json keeps_finals beyond rows.each.items before line
+  pub last : TakesBytes line after (rows_told is_json named (length rows.each.items) rows.is_mixed servers rows.vector)
 
 -- what keys begin with that are asked for: all do where nothing is named
 abbrev pub prefix_named : Option (List ℕ) → List ℕ
@@ -71,6 +91,6 @@ prefix_named (Some prefix) = prefix
 abbrev pub Lists : SessionId → (named : Option (List ℕ)) → (old new : Desk) → (before after : Account) → Type 0
 Lists who named old new before after =
     ((rows : Rows) × (beyond : Option Beyond) × AreListed (prefix_named named) rows.each.items × (new.is_served ≡ old.is_served)
-    × PrintsList (keeps_finals (outlook_of new.store.views)) old.servers named beyond rows before after)
-    ⊎ ((refusal : Refusal) × (new.is_served ≡ false) × TakesBytes before after (told_text old.servers who None (Refused refusal)))
-    ⊎ ((new.is_served ≡ false) × TakesBytes before after LIST_LOST.now)
+    × PrintsList old.is_json (keeps_finals (outlook_of new.store.views)) old.servers named beyond rows before after)
+    ⊎ ((refusal : Refusal) × (new.is_served ≡ false) × TakesBytes before after (refused_told old.is_json old.servers who refusal))
+    ⊎ ((new.is_served ≡ false) × TakesBytes before after (lost_told old.is_json))

@@ -15,6 +15,7 @@ use Rattle.bayou_streams.specs.Account.{Account}
 -- a desk for a plan, at which nothing was done yet
 pub record IsDeskOf (plan : Plan) (desk : Desk) : Type 0 where
   pub servers : desk.servers ≡ plan.servers
+  pub json : desk.is_json ≡ plan.is_json
   pub rounds : desk.rounds ≡ plan.wait_seconds * ROUNDS_PER_SECOND
   pub served : desk.is_served ≡ true
 

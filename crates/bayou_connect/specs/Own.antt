@@ -1,10 +1,13 @@
 -- What a person learns of own Writes: this project's own.
-use Rattle.std.specs.Prelude.{◌≡◌, ◌==◌, ◌+◌, if◌then◌else◌, ℕ, zero, suc, Bool, true, false, MatchBool, MatchOption, Option, None, Some, slice_get}
+use Rattle.std.specs.Prelude.{◌≡◌, ◌==◌, ◌+◌, if◌then◌else◌, ℕ, zero, suc, Bool, true, false, List, MatchBool, MatchOption, Option, None, Some, slice_get}
 use Rattle.std.specs.Option.{option_map}
 use Rattle.bayou_base.specs.declared.limits.TheConstants.{MAX_OWN_WRITES}
+use Rattle.bayou_base.specs.declared.wid.Wid.{Wid}
 use Rattle.bayou_connect.specs.Finals.{HasForgotten, HasMade, HasTold, keeps_finals, own_in, told_as}
+use Rattle.bayou_connect.specs.Objects.{forgotten_json, own_json}
 use Rattle.bayou_connect.specs.declared.desk.Made.{Made}
 use Rattle.bayou_connect.specs.declared.finals.Telling.{Telling}
+use Rattle.bayou_connect.specs.declared.finals.Telling.TheVariants as tellings
 use Rattle.bayou_final.specs.declared.standing.Standing.{Standing}
 use Rattle.bayou_final.specs.declared.standing.Standing.TheVariants.{Tentative, Final, Changed}
 use Rattle.bayou_outlook.specs.declared.outlook.Outlook.{Outlook}
@@ -28,6 +31,22 @@ KeepsOwn old write new before after = MatchBool (keeps_finals old)
     ((gone : Option OwnWrite) × HasMade old write gone new × TellsGone gone before after)
     ((new ≡ old) × (after ≡ before))
 
+-- all own Writes are reported: an object each, or a line each
+abbrev pub telling_all : (is_json : Bool) → Telling
+telling_all is_json = if is_json then tellings.Objects else tellings.All
+
+-- what is printed of how an own Write stands, and of what became of it: a line, or an object
+abbrev pub own_told : Telling → Standing → Wid → Placed → List ℕ
+own_told tellings.News standing wid placed = standing_text 0 standing wid (Some placed)
+own_told tellings.All standing wid placed = standing_text 0 standing wid (Some placed)
+own_told tellings.Objects standing wid placed = own_json 0 standing wid placed.became
+
+-- what is printed of one that is kept no longer: a line, or an object
+abbrev pub forgotten_told : Telling → Wid → List ℕ
+forgotten_told tellings.News wid = forgotten_text 0 wid
+forgotten_told tellings.All wid = forgotten_text 0 wid
+forgotten_told tellings.Objects wid = forgotten_json 0 wid
+
 -- it stays as it is
 abbrev pub is_final : Standing → Bool
 is_final Tentative = false
@@ -38,14 +57,14 @@ is_final Changed = false
 abbrev pub TellsStanding : (old : Option Outlook) → (place : ℕ) → OwnWrite → Telling → Placed → (gone : Bool) → (new : Option Outlook) → (before after : Account) → Type 0
 TellsStanding old place write telling placed gone new before after = (news : Option Standing) × HasTold old place placed.became news new
     × MatchOption (told_as telling news) ((gone ≡ false) × (after ≡ before))
-    (λ standing. (gone ≡ is_final standing) × TakesBytes before after (standing_text 0 standing write.wid (Some placed)))
+    (λ standing. (gone ≡ is_final standing) × TakesBytes before after (own_told telling standing write.wid placed))
 
 -- An own Write: nothing where no server tells what became of it. Where another Write has its name by now, its server lost it: then it is reported as forgotten.
 abbrev pub TellsOwn : (old : Option Outlook) → (place : ℕ) → OwnWrite → Telling → (gone : Bool) → (new : Option Outlook) → (before after : Account) → Type 0
 TellsOwn old place write telling gone new before after = (placed : Option Placed) × MatchOption placed ((gone ≡ false) × (new ≡ old) × (after ≡ before))
     (λ placed. MatchBool (placed.clock == write.clock)
     (TellsStanding old place write telling placed gone new before after)
-    ((gone ≡ true) × HasForgotten old place new × TakesBytes before after (forgotten_text 0 write.wid)))
+    ((gone ≡ true) × HasForgotten old place new × TakesBytes before after (forgotten_told telling write.wid)))
 
 -- Own Writes, from a place on, so many at the most, one after another: the next is at the same place where one is kept no longer.
 unfoldable pub TellsFrom : (most : ℕ) → (place : ℕ) → Telling → (old new : Option Outlook) → (before after : Account) → Type 0

@@ -7,7 +7,7 @@ use Rattle.bayou_connect.specs.Claiming.{TellsOutcome}
 use Rattle.bayou_connect.specs.Commands.{DoesCommand, WritesAgain}
 use Rattle.bayou_connect.specs.Desks.{IsSameDesk}
 use Rattle.bayou_connect.specs.Finals.{outlook_of, own_in}
-use Rattle.bayou_connect.specs.Own.{TellsAsLooked}
+use Rattle.bayou_connect.specs.Own.{TellsAsLooked, telling_all}
 use Rattle.bayou_connect.specs.Sessions.{own_session}
 use Rattle.bayou_connect.specs.Wishing.{DoesWish}
 use Rattle.bayou_connect.specs.declared.desk.Desk.{Desk}
@@ -20,7 +20,6 @@ use Rattle.bayou_connect.specs.declared.doing.Wrong.{Wrong}
 use Rattle.bayou_connect.specs.declared.doing.Wrong.TheVariants.{Script, Wish as NoWish}
 use Rattle.bayou_connect.specs.declared.fault.ConnectFault.{ConnectFault}
 use Rattle.bayou_connect.specs.declared.fault.ConnectFault.TheVariants.{Memory}
-use Rattle.bayou_connect.specs.declared.finals.Telling.TheVariants.{All}
 use Rattle.bayou_connect.specs.declared.help.TheConstants.{HELP}
 use Rattle.bayou_person.specs.Wishes.{IsFaultOf, Wishes}
 use Rattle.bayou_person.specs.declared.wish.Wish.{Wish}
@@ -123,7 +122,7 @@ abbrev pub DoesWord : Spoken → (old new : Desk) → (before after : Account) �
 DoesWord Again old new before after done = (done ≡ became.Done) × AsksOnceMore old new before after
 DoesWord Help old new before after done = (done ≡ became.Done) × (new ≡ old) × TakesBytes before after HELP.now
 DoesWord Mine old new before after done = (done ≡ became.Done) × IsSameDesk old new × (new.is_served ≡ old.is_served)
-    × TellsAsLooked All (outlook_of new.store.views) before after
+    × TellsAsLooked (telling_all old.is_json) (outlook_of new.store.views) before after
 DoesWord Wait old new before after done = (done ≡ became.Done) × Waits old new
 DoesWord Quit old new before after done = (done ≡ became.Quit) × (new ≡ old) × (after ≡ before)
 

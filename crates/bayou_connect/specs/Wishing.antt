@@ -1,9 +1,10 @@
 -- What short lines do: this project's own.
-use Rattle.std.specs.Prelude.{◌≡◌, ◌≢◌, ◌&&◌, ℕ, Bool, true, All, IsSomeAnd, List, [], ◌∷◌, MatchBool, MatchOption, Option, None, Some, is_some, map, slice_get}
+use Rattle.std.specs.Prelude.{◌≡◌, ◌≢◌, ◌&&◌, if◌then◌else◌, ℕ, Bool, true, All, IsSomeAnd, List, [], ◌∷◌, MatchBool, MatchOption, Option, None, Some, is_some, map, slice_get}
 use Rattle.bayou_base.specs.declared.server.ServerId.{ServerId}
 use Rattle.bayou_connect.specs.Claiming.{ClaimsOne, MakesAddition, MakesPlainly, ReadsKey, TellsBecame}
 use Rattle.bayou_connect.specs.Desks.{IsSameDesk, IsSameSeat}
 use Rattle.bayou_connect.specs.Listing.{Lists}
+use Rattle.bayou_connect.specs.Objects.{server_json}
 use Rattle.bayou_connect.specs.Printing.{IsAsksLine}
 use Rattle.bayou_connect.specs.Standing.{TellsKeyStanding}
 use Rattle.bayou_connect.specs.Sessions.{kept_of, own_session}
@@ -59,11 +60,15 @@ TellsSession desk before after = MatchOption (kept_of desk.store.sessions.items 
 abbrev pub servers_at : List Access → List ServerId
 servers_at accesses = map (λ (access : Access). access.place.id) accesses
 
+-- what is printed of what a server holds, or that it is away: a line, or an object
+abbrev pub server_told : (is_json : Bool) → (server servers : ℕ) → Option Holds → List ℕ
+server_told is_json server servers held = if is_json then server_json server servers held else server_text server servers held
+
 -- What a server holds is printed, or that it is away, which isn't what was asked for.
 pub record TellsServer (server : ServerId) (old new : Desk) (before after : Account) : Type 0 where
   pub held : Option Holds
   pub served : new.is_served ≡ (old.is_served && is_some held)
-  pub printed : TakesBytes before after (server_text server.index old.servers held)
+  pub printed : TakesBytes before after (server_told old.is_json server.index old.servers held)
   pub same : IsSameDesk old new
 
 -- and of these servers, one after another

@@ -386,7 +386,7 @@ pub(crate) fn desk_of(
 ) -> Desk
     requires { 0 < run }
     ensures session { IsOpenedFrom first_number who run asks store.sessions.items result.store.sessions.items }
-    ensures plan { (result.servers ≡ plan.now.servers) × (result.rounds ≡ plan.now.wait_seconds * ROUNDS_PER_SECOND) }
+    ensures plan { (result.servers ≡ plan.now.servers) × (result.is_json ≡ plan.now.is_json) × (result.rounds ≡ plan.now.wait_seconds * ROUNDS_PER_SECOND) }
     ensures new { (result.run ≡ run) × (result.first_number ≡ first_number) × (result.first ≡ 0) × (result.is_served ≡ true) × (result.opened ≡ replicate NUMBER false) }
 {
     let mut store = store;
@@ -395,6 +395,7 @@ pub(crate) fn desk_of(
         alloc,
         store,
         servers: plan.servers,
+        is_json: plan.is_json,
         run,
         first_number,
         first: 0,

@@ -26,6 +26,8 @@ pub(crate) struct Desk {
     pub(crate) store: Store,
     /// How many counts of a vector are printed.
     pub(crate) servers: u8,
+    /// Whether `list`, `servers` and `mine` print an object a line.
+    pub(crate) is_json: bool,
     /// The run of a session that is opened.
     pub(crate) run: u32,
     /// The number that session 0 has in tags and in the book. The others' follow.

@@ -8,7 +8,7 @@ ghost use Rattle.bayou_streams.specs.Account.{account};
 
 use crate::desk::{Desk, OWN, print};
 use crate::fault::ConnectFault;
-use crate::finals::{Telling, WAIT_SECONDS};
+use crate::finals::{WAIT_SECONDS, telling_all};
 use crate::help::HELP;
 use bayou_net::Sockets;
 use bayou_person::{WishFault, wish_in};
@@ -195,7 +195,7 @@ fn do_short_line<W: Write, T: Files<File = File> + Sockets + Wait + Clock>(
         None => return do_other(rt, desk, output, line),
         Some(Spoken::Again) => do_again(rt, desk, output)?,
         Some(Spoken::Help) => print(output, HELP)?,
-        Some(Spoken::Mine) => desk.tell_finals(rt, output, Telling::All)?,
+        Some(Spoken::Mine) => desk.tell_finals(rt, output, telling_all(desk.is_json))?,
         Some(Spoken::Wait) => desk.wait_for_finals(rt, output, WAIT_SECONDS)?,
         Some(Spoken::Quit) => return Ok(Became::Quit),
     }

@@ -1,18 +1,18 @@
 //! What a person learns of what is final.
-ghost use Rattle.std.specs.Prelude.{◌≡◌, ◌+◌, ◌-◌, ◌^◌, ◌&&◌, ◌||◌, [], if◌then◌else◌, IfOk, None, Ok, OnOk, Some, is_none, min, not, slice_get, true};
+ghost use Rattle.std.specs.Prelude.{◌≡◌, ◌+◌, ◌-◌, ◌^◌, ◌&&◌, ◌||◌, [], if◌then◌else◌, IfOk, None, Ok, OnOk, Some, is_none, min, not, slice_get, string_bytes, true};
 ghost use Rattle.bayou_connect.specs.Beyond.{standing_at};
 ghost use Rattle.bayou_connect.specs.Desks.{IsSameDesk};
 ghost use Rattle.bayou_connect.specs.Finals.{is_void_for_good, keeps_finals, outlook_of, own_in, told_as};
-ghost use Rattle.bayou_connect.specs.Own.{KeepsOwn, TellsAsLooked, TellsFrom, TellsOwn, own_write};
+ghost use Rattle.bayou_connect.specs.Own.{KeepsOwn, TellsAsLooked, TellsFrom, TellsOwn, forgotten_told, own_told, own_write, telling_all as all_told_by};
 ghost use Rattle.bayou_connect.specs.Standing.{TellsKeyStanding};
 ghost use Rattle.bayou_connect.specs.declared.finals.Telling.TheVariants.{News};
 ghost use Rattle.bayou_base.specs.declared.limits.TheConstants.{MAX_OWN_WRITES as MOST};
-ghost use Rattle.bayou_print.specs.Standing.{forgotten_text, standing_text};
 ghost use Rattle.bayou_streams.specs.Account.{TakesBytes, account};
 
 use crate::desk::{Desk, Made, OWN, print};
 use crate::fault::ConnectFault;
 use crate::looking::Beyond;
+use crate::objects::{forgotten_object, own_object};
 use bayou_base::limits::MAX_OWN_WRITES;
 use bayou_base::{Key, Wid};
 use bayou_final::Standing;
@@ -21,6 +21,7 @@ use bayou_outlook::OwnWrite;
 use bayou_print::{forgotten_line, key_standing_line, standing_line};
 use bayou_streams::Output;
 use bayou_wire::{Became, Placed};
+use std::alloc::{AllocError, Global};
 use std::fs::{File, Files};
 use std::io::Write;
 use std::thread;
@@ -32,13 +33,26 @@ const REST_MILLISECONDS: u64 = 250;
 /// For how long it is waited for that where nothing is said, in seconds.
 pub(crate) const WAIT_SECONDS: u32 = 60;
 
-/// Which own Writes are reported.
+/// Which own Writes are reported, and how.
 #[derive(Clone, Copy, Debug, PartialEq, Eq)]
 pub(crate) enum Telling {
-    /// Those with news.
+    /// Those with news, a line each.
     News,
-    /// All.
+    /// All, a line each.
     All,
+    /// All, an object each.
+    Objects,
+}
+
+/// That all own Writes are reported: an object each where that is so, and else a line each.
+pub(crate) fn telling_all(is_json: bool) -> Telling
+    ensures { result ≡ all_told_by is_json }
+{
+    if is_json {
+        Telling::Objects
+    } else {
+        Telling::All
+    }
 }
 
 // How an own Write is reported to stand, by what is news of it: where all are reported, one without news stands as it did, and may change.
@@ -47,7 +61,7 @@ fn standing_told(news: Option<Standing>, telling: Telling) -> Option<Standing>
 {
     match (news, telling) {
         (None, Telling::News) => None,
-        (None, Telling::All) => Some(Standing::Tentative),
+        (None, Telling::All | Telling::Objects) => Some(Standing::Tentative),
         (Some(news), _) => Some(news),
     }
 }
@@ -60,6 +74,32 @@ fn place_behind(place: usize, is_gone: bool) -> usize
         place
     } else {
         place.saturating_add(1)
+    }
+}
+
+// What is printed of how an own Write stands: a line, or an object.
+fn own_text(
+    alloc: Global,
+    telling: Telling,
+    standing: Standing,
+    wid: Wid,
+    placed: Placed,
+) -> Result<String, AllocError>
+    ensures { IfOk result (λ text. string_bytes text ≡ own_told telling standing wid placed) }
+{
+    match telling {
+        Telling::News | Telling::All => standing_line(alloc, OWN, standing, wid, &Some(placed)),
+        Telling::Objects => own_object(alloc, OWN, standing, wid, placed.became),
+    }
+}
+
+// What is printed of an own Write that is kept no longer: a line, or an object.
+fn forgotten_text(alloc: Global, telling: Telling, wid: Wid) -> Result<String, AllocError>
+    ensures { IfOk result (λ text. string_bytes text ≡ forgotten_told telling wid) }
+{
+    match telling {
+        Telling::News | Telling::All => forgotten_line(alloc, OWN, wid),
+        Telling::Objects => forgotten_object(alloc, OWN, wid),
     }
 }
 
@@ -89,7 +129,7 @@ impl Desk {
         self.store.keep_views(rt)?;
         match gone {
             Some(gone) => {
-                self.tell_forgotten(output, gone)?;
+                self.tell_forgotten(output, Telling::News, gone.wid)?;
                 Ok(())
             }
             None => Ok(()),
@@ -100,14 +140,15 @@ impl Desk {
     fn tell_forgotten<W: Write>(
         &mut self,
         output: &mut Output<W>,
-        write: OwnWrite,
+        telling: Telling,
+        wid: Wid,
     ) -> Result<bool, ConnectFault>
-        ensures printed { OnOk result (TakesBytes (account W.contents output.old) (account W.contents output.new) (forgotten_text 0 write.wid)) }
+        ensures printed { OnOk result (TakesBytes (account W.contents output.old) (account W.contents output.new) (forgotten_told telling wid)) }
         ensures so { IfOk result (λ is. is ≡ true) }
         ensures same { self.new ≡ self.old }
     {
-        let line = forgotten_line(self.alloc, OWN, write.wid)?;
-        print(output, line.as_str())?;
+        let text = forgotten_text(self.alloc, telling, wid)?;
+        print(output, text.as_str())?;
         Ok(true)
     }
 
@@ -129,13 +170,13 @@ impl Desk {
         if placed.clock != write.clock {
             // Its server lost it, and gave its name to another.
             self.store.forget_own(place);
-            return self.tell_forgotten(output, write);
+            return self.tell_forgotten(output, telling, write.wid);
         }
         let news = self.store.told(place, placed.became);
         let Some(standing) = standing_told(news, telling) else {
             return Ok(false);
         };
-        self.print_standing(output, standing, write.wid, placed)?;
+        self.print_standing(output, telling, standing, write.wid, placed)?;
         Ok(standing == Standing::Final)
     }
 
@@ -143,11 +184,12 @@ impl Desk {
     fn print_standing<W: Write>(
         &mut self,
         output: &mut Output<W>,
+        telling: Telling,
         standing: Standing,
         wid: Wid,
         placed: Placed,
     ) -> Result<(), ConnectFault>
-        ensures printed { OnOk result (TakesBytes (account W.contents output.old) (account W.contents output.new) (standing_text 0 standing wid (Some placed))) }
+        ensures printed { OnOk result (TakesBytes (account W.contents output.old) (account W.contents output.new) (own_told telling standing wid placed)) }
         ensures void { self.new.is_void ≡ (self.old.is_void || is_void_for_good standing placed.became) }
         ensures same { (self.new.store ≡ self.old.store) × (self.new.is_served ≡ self.old.is_served) }
         ensures desk { IsSameDesk self.old self.new }
@@ -155,8 +197,8 @@ impl Desk {
         if standing == Standing::Final && placed.became == Became::Nothing {
             self.is_void = true;
         }
-        let line = standing_line(self.alloc, OWN, standing, wid, &Some(placed))?;
-        print(output, line.as_str())
+        let text = own_text(self.alloc, telling, standing, wid, placed)?;
+        print(output, text.as_str())
     }
 
     // Tells how own Writes stand: all of them, or those with news.

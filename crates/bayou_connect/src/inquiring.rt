@@ -1,20 +1,22 @@
 //! What is asked of servers beside a session's operations.
-ghost use Rattle.std.specs.Prelude.{◌≡◌, IfOk, OnOk};
+ghost use Rattle.std.specs.Prelude.{◌≡◌, IfOk, OnOk, string_bytes};
 ghost use Rattle.bayou_connect.specs.Commands.{Reopens};
 ghost use Rattle.bayou_connect.specs.Desks.{IsSameDesk};
 ghost use Rattle.bayou_connect.specs.Operating.{recovery_told};
-ghost use Rattle.bayou_connect.specs.Wishing.{DumpServers, Dumps, DumpsServer, TellServers, TellsServer, TellsSession, servers_at};
+ghost use Rattle.bayou_connect.specs.Wishing.{DumpServers, Dumps, DumpsServer, TellServers, TellsServer, TellsSession, server_told, servers_at};
 ghost use Rattle.bayou_streams.specs.Account.{account};
 
 use crate::desk::{Desk, OWN, print};
 use crate::fault::ConnectFault;
+use crate::objects::server_object;
 use crate::saying::asks_line;
 use bayou_answers::{Answer, Recovery};
 use bayou_base::{ServerId, Wid};
 use bayou_client::LinkFault;
 use bayou_net::Sockets;
-use bayou_print::{REOPEN_AWAY, dumped_line, last_line, seat_line, server_line};
+use bayou_print::{Holds, REOPEN_AWAY, dumped_line, last_line, seat_line, server_line};
 use bayou_streams::Output;
+use std::alloc::AllocError;
 use std::io::Write;
 use std::sync::Wait;
 use std::time::Clock;
@@ -64,6 +66,16 @@ impl Desk {
         Ok(true)
     }
 
+    // What is printed of what the server holds, or that it is away: a line, or an object.
+    fn server_text(&self, server: ServerId, held: &Option<Holds>) -> Result<String, AllocError>
+        ensures { IfOk result (λ text. string_bytes text ≡ server_told self.now.is_json server.index self.now.servers held.now) }
+    {
+        if self.is_json {
+            return server_object(self.alloc, server, self.servers, held);
+        }
+        server_line(self.alloc, server, self.servers, held)
+    }
+
     // Prints what the server holds, or that it is away.
     fn tell_server<W: Write, T: Sockets + Clock>(
         &mut self,
@@ -80,8 +92,8 @@ impl Desk {
         if held.is_none() {
             self.is_served = false;
         }
-        let line = server_line(self.alloc, server, self.servers, &held)?;
-        print(output, line.as_str())
+        let text = self.server_text(server, &held)?;
+        print(output, text.as_str())
     }
 
     /// Prints what each server holds, or that it is away.

@@ -28,6 +28,7 @@ mod inquiring;
 mod lines;
 mod listing;
 mod looking;
+mod objects;
 pub mod open_desk;
 mod outcome;
 pub mod plan;

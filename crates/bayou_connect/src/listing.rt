@@ -1,9 +1,9 @@
 //! Rows of a database, which a server tells page after page.
-ghost use Rattle.std.specs.Prelude.{◌≡◌, ◌&&◌, [], ◌++◌, IfOk, MatchOption, None, Ok, OnOk, false, nat_eq, option_copied};
+ghost use Rattle.std.specs.Prelude.{◌≡◌, ◌&&◌, [], ◌++◌, IfOk, MatchOption, None, Ok, OnOk, false, nat_eq, option_copied, string_bytes};
 ghost use Rattle.std.specs.List.{starts_with};
 ghost use Rattle.bayou_connect.specs.Desks.{IsSameDesk, IsSameSeat};
 ghost use Rattle.bayou_connect.specs.Finals.{keeps_finals, outlook_of};
-ghost use Rattle.bayou_connect.specs.Listing.{AreListed, Lists, PrintsList, do_follow, is_behind, last_key as key_last, line_of_row, prefix_named, standing_told};
+ghost use Rattle.bayou_connect.specs.Listing.{AreListed, Lists, PrintsList, do_follow, is_behind, last_key as key_last, lost_told, prefix_named, refused_told, row_told, rows_told, standing_told};
 ghost use Rattle.bayou_streams.specs.Account.{TakesBytes, account};
 
 use crate::anywhere::anywhere;
@@ -11,10 +11,13 @@ use crate::asking::Attempt;
 use crate::desk::{Desk, print};
 use crate::fault::ConnectFault;
 use crate::looking::Beyond;
+use crate::objects::{lost_object, refused_object, row_object, rows_object};
+use crate::saying::told_line;
 use crate::told::Told;
-use bayou_base::{Key, MAX_OPS, MAX_WRITES, Prefix, SessionId, Value, Vector};
+use bayou_base::{Key, MAX_OPS, MAX_WRITES, Prefix, Refusal, SessionId, Value, Vector};
+use bayou_final::Standing;
 use bayou_net::Sockets;
-use bayou_print::{LIST_LOST, row_line, rows_line, standing_row_line};
+use bayou_print::{Counts, LIST_LOST, row_line, rows_line, standing_row_line};
 use bayou_streams::Output;
 use bayou_wire::layout::ROWS_AT_ONCE;
 use bayou_wire::{Page, RowsAsked};
@@ -160,6 +163,32 @@ impl Rows {
     }
 }
 
+// What is printed of a row, and of how its value stands, where that is kept: a line, or an object.
+fn row_text(
+    alloc: Global,
+    is_json: bool,
+    row: &(Key, Value),
+    standing: Option<Standing>,
+) -> Result<String, AllocError>
+    ensures { IfOk result (λ text. string_bytes text ≡ row_told is_json standing row.now) }
+{
+    if is_json {
+        return row_object(alloc, row, standing);
+    }
+    let value = Some(row.1.copy());
+    match standing {
+        None => row_line(alloc, &row.0, &value),
+        Some(standing) => standing_row_line(alloc, &row.0, &value, standing),
+    }
+}
+
+// What is printed of a list of which nothing, or not all, came: a line, or an object.
+fn lost_text(is_json: bool) -> &'static str
+    ensures { result.now ≡ lost_told is_json }
+{
+    if is_json { lost_object() } else { LIST_LOST }
+}
+
 impl Desk {
     // Asks for the rows after those that came, of the server that sent them: up to the last, or to one of another database, unless they may be
     // mixed.
@@ -251,15 +280,40 @@ impl Desk {
         beyond: &Option<Beyond>,
     ) -> Result<(), ConnectFault>
         ensures printed { OnOk result (TakesBytes (account W.contents output.old) (account W.contents output.new)
-            (line_of_row (standing_told (keeps_finals (outlook_of self.old.store.views)) beyond.now row.now.0) row.now)) }
+            (row_told self.old.is_json (standing_told (keeps_finals (outlook_of self.old.store.views)) beyond.now row.now.0) row.now)) }
         ensures same { self.new ≡ self.old }
     {
-        let value = Some(row.1.copy());
-        let line = match self.standing(beyond, &row.0) {
-            None => row_line(self.alloc, &row.0, &value)?,
-            Some(standing) => standing_row_line(self.alloc, &row.0, &value, standing)?,
-        };
-        print(output, line.as_str())
+        let standing = self.standing(beyond, &row.0);
+        let text = row_text(self.alloc, self.is_json, row, standing)?;
+        print(output, text.as_str())
+    }
+
+    // What is printed of how many rows there are, and of what was held: a line, or an object.
+    fn rows_text(
+        &self,
+        prefix: Option<&Key>,
+        keys: usize,
+        is_mixed: bool,
+        vector: &Vector,
+    ) -> Result<String, AllocError>
+        ensures { IfOk result (λ text. string_bytes text ≡ rows_told self.now.is_json (option_copied prefix.entry) keys is_mixed self.now.servers vector.now) }
+    {
+        let servers = self.servers;
+        if self.is_json {
+            let counts = Counts { vector, servers };
+            return rows_object(self.alloc, prefix, keys, is_mixed, counts);
+        }
+        rows_line(self.alloc, prefix, keys, is_mixed, servers, vector)
+    }
+
+    // What is printed of a list that was refused: a line, or an object.
+    fn refused_text(&self, who: SessionId, refusal: Refusal) -> Result<String, AllocError>
+        ensures { IfOk result (λ text. string_bytes text ≡ refused_told self.now.is_json self.now.servers who refusal) }
+    {
+        if self.is_json {
+            return refused_object(self.alloc, self.servers, who, &refusal);
+        }
+        told_line(self.alloc, self.servers, who, &None, Told::Refused(refusal))
     }
 
     // Prints the rows, with how each value stands where that is known, and after them how many there are and what was held.
@@ -270,7 +324,7 @@ impl Desk {
         rows: Rows,
         beyond: &Option<Beyond>,
     ) -> Result<(), ConnectFault>
-        ensures printed { OnOk result (PrintsList (keeps_finals (outlook_of self.old.store.views)) self.old.servers (option_copied prefix.entry) beyond.now rows (account W.contents output.old) (account W.contents output.new)) }
+        ensures printed { OnOk result (PrintsList self.old.is_json (keeps_finals (outlook_of self.old.store.views)) self.old.servers (option_copied prefix.entry) beyond.now rows (account W.contents output.old) (account W.contents output.new)) }
         ensures same { self.new ≡ self.old }
     {
         let Rows {
@@ -281,15 +335,8 @@ impl Desk {
         for row in &each {
             self.print_row(output, row, beyond)?;
         }
-        let line = rows_line(
-            self.alloc,
-            prefix,
-            each.len(),
-            is_mixed,
-            self.servers,
-            &vector,
-        )?;
-        print(output, line.as_str())
+        let text = self.rows_text(prefix, each.len(), is_mixed, &vector)?;
+        print(output, text.as_str())
     }
 
     /// Prints each key that begins so, or each where nothing is named, with its value, in order, under what the session asks for; and how many there
@@ -311,11 +358,13 @@ impl Desk {
                 self.print_rows(output, prefix, rows, &beyond)
             }
             Err(Told::Refused(refusal)) => {
-                self.finish(output, who, &None, Told::Refused(refusal))
+                self.is_served = false;
+                let text = self.refused_text(who, refusal)?;
+                print(output, text.as_str())
             }
             Err(_) => {
                 self.is_served = false;
-                print(output, LIST_LOST)
+                print(output, lost_text(self.is_json))
             }
         }
     }

@@ -27,6 +27,8 @@ pub struct Plan {
     pub places: Vec<Place>,
     /// How many counts of a vector are printed.
     pub servers: u8,
+    /// Whether `list`, `servers` and `mine` print an object a line.
+    pub is_json: bool,
     /// What session 0 asks for. `None` where the words don't say: what it asked for when it was kept, else nothing.
     pub asks: Option<Asks>,
     /// How long a short line is tried again that no server serves.
@@ -260,7 +262,7 @@ fn asks_if_said(text: Option<&str>) -> Result<Option<Asks>, PlanFault>
 
 impl Plan {
     /// The plan that these words make, or the first of them that can't be done: servers, in the order in which they are tried, and how
-    /// many counts are printed, which is as many as their numbers need where it isn't said.
+    /// many counts are printed, which is as many as their numbers need where it isn't said. No line prints an object.
     pub fn new(
         alloc: Global,
         servers: &[&str],
@@ -274,6 +276,7 @@ impl Plan {
         ensures same { IfOk result (λ plan. (plan.wait_seconds ≡ wait_seconds) × (plan.timeout_seconds ≡ timeout_seconds) × (length plan.places.items ≡ length servers.now)) }
         ensures servers { IfOk result (λ plan. MatchOption count (IsLeast plan.servers plan.places.items) (λ number. plan.servers ≡ number)) }
         ensures asks { IfOk result (λ plan. AskedBy (option_copied asks.entry) plan.asks) }
+        ensures json { IfOk result (λ plan. plan.is_json ≡ false) }
         ensures refused { IfErr result (IsWrong (map (λ word. word.now) servers.now) count (option_copied asks.entry)) }
     {
         let places = places_of(alloc, servers)?;
@@ -288,9 +291,19 @@ impl Plan {
         Ok(Plan {
             places,
             servers,
+            is_json: false,
             asks,
             wait_seconds,
             timeout_seconds,
         })
+    }
+
+    /// The same plan, in which `list`, `servers` and `mine` print an object a line where that is so, and lines as ever where it isn't.
+    pub fn printing(self, is_json: bool) -> Plan
+        ensures { result ≡ record self { is_json = is_json } }
+    {
+        let mut plan = self;
+        plan.is_json = is_json;
+        plan
     }
 }

@@ -8,6 +8,7 @@ use Rattle.bayou_connect.proofs.desk.Desk.print_rows.Given as goal
 abbrev pub invariant-loop-row : goal.invariant-loop-row
 invariant-loop-row g l = record {
   same : l.self ≡ l.fn.self;
-  left : (after : Account) → PrintsRows (keeps_finals (outlook_of l.fn.self.store.views)) l.beyond (drop l.row-index l.row-items) (account g.W.Write.contents l.output) after
-      → PrintsRows (keeps_finals (outlook_of l.fn.self.store.views)) l.beyond l.row-items (account g.W.Write.contents l.fn.output) after;
+  left : (after : Account)
+      → PrintsRows l.fn.self.is_json (keeps_finals (outlook_of l.fn.self.store.views)) l.beyond (drop l.row-index l.row-items) (account g.W.Write.contents l.output) after
+      → PrintsRows l.fn.self.is_json (keeps_finals (outlook_of l.fn.self.store.views)) l.beyond l.row-items (account g.W.Write.contents l.fn.output) after;
 }
