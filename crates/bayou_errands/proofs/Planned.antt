@@ -1,5 +1,5 @@
 -- What plans say of the words that they are made of.
-use Rattle.std.proofs.Common.{◌≡◌, ◌≢◌, ◌∙◌, ℕ, List, [], ◌∷◌, Option, None, Some, Result, Ok, Err, IfErr, IfOk, MatchOption, MatchResult, option_map, ap, length, map, refl, subst, sym}
+use Rattle.std.proofs.Common.{◌≡◌, ◌≢◌, ◌∙◌, ℕ, List, [], ◌∷◌, Option, None, Some, Result, Ok, Err, IfErr, IfOk, MatchOption, MatchResult, option_map, ap, false, length, map, refl, subst, sym}
 use Rattle.std.specs.List.{AllZip}
 use Rattle.std.specs.Option.{option_copied}
 use denote.Ref.{Bor}
@@ -102,27 +102,41 @@ pub places_of : (connection : Connection) (words : List (Bor (List ℕ))) (asks 
     → IfOk result (λ plan. (plan.wait_seconds ≡ connection.wait_seconds) × (plan.timeout_seconds ≡ connection.timeout_seconds) × (length plan.places.items ≡ length words))
     → IfOk result (λ plan. MatchOption connection.count (IsLeast plan.servers plan.places.items) (λ number. plan.servers ≡ number))
     → IfOk result (λ plan. AskedBy (option_copied asks) plan.asks)
+    → IfOk result (λ plan. plan.is_json ≡ connection.is_json)
     → IfErr result (IsWrong (map (λ word. word.now) words) connection.count (option_copied asks))
     → kept ≡ result → MatchResult kept (IsPlanOfPlaces connection) (RefusesConnection connection)
-places_of connection words asks result kept named asked said same counts wants wrong is =
-    subst (λ (r : Result Places Wrong). MatchResult r (IsPlanOfPlaces connection) (RefusesConnection connection)) (sym is) (of_result result said same counts wants wrong)
+places_of connection words asks result kept named asked said same counts wants json wrong is =
+    subst (λ (r : Result Places Wrong). MatchResult r (IsPlanOfPlaces connection) (RefusesConnection connection)) (sym is) (of_result result said same counts wants json wrong)
   where
     of_result : (result : Result Places Wrong) → IfOk result (λ plan. AllZip (λ word place. SaysPlace word.now place) words plan.places.items)
         → IfOk result (λ plan. (plan.wait_seconds ≡ connection.wait_seconds) × (plan.timeout_seconds ≡ connection.timeout_seconds) × (length plan.places.items ≡ length words))
         → IfOk result (λ plan. MatchOption connection.count (IsLeast plan.servers plan.places.items) (λ number. plan.servers ≡ number))
         → IfOk result (λ plan. AskedBy (option_copied asks) plan.asks)
+        → IfOk result (λ plan. plan.is_json ≡ connection.is_json)
         → IfErr result (IsWrong (map (λ word. word.now) words) connection.count (option_copied asks))
         → MatchResult result (IsPlanOfPlaces connection) (RefusesConnection connection)
-    of_result (Err fault) said same counts wants wrong =
+    of_result (Err fault) said same counts wants json wrong =
         subst (λ (servers : List (List ℕ)). IsWrong servers connection.count connection.asks fault) (sym named)
         (subst (λ (text : Option (List ℕ)). IsWrong (map (λ word. word.now) words) connection.count text fault) (copied asks ∙ sym asked) wrong)
-    of_result (Ok plan) said same counts wants wrong = record {
+    of_result (Ok plan) said same counts wants json wrong = record {
       places = subst (λ (servers : List (List ℕ)). AllZip SaysPlace servers plan.places.items) (sym named) (zip_seen SaysPlace words plan.places.items said);
       wait = same.0;
       timeout = same.1;
       count = counts;
       asks = subst (λ (text : Option (List ℕ)). AskedBy text plan.asks) (copied asks ∙ sym asked) wants;
+      json = json;
     }
+
+-- a plan whose rows are printed otherwise is that of words which ask for that
+pub printed_so : (connection : Connection) (plan : Places) → IsPlanOfPlaces (record connection { is_json = false }) plan → IsPlanOfPlaces connection (record plan { is_json = connection.is_json })
+printed_so connection plan is = record {
+  places = is.places;
+  wait = is.wait;
+  timeout = is.timeout;
+  count = is.count;
+  asks = is.asks;
+  json = refl;
+}
 
 -- ---- journals of new stores
 

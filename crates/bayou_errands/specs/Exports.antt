@@ -1,5 +1,5 @@
 -- The rows that words ask for, and what is printed of them: this project's own.
-use Rattle.std.specs.Prelude.{◌≡◌, ℕ, List, [], MatchResult, None, length, option_map, string_bytes, unwrap_or}
+use Rattle.std.specs.Prelude.{◌≡◌, ℕ, List, [], MatchResult, None, length, option_map, string_bytes, unwrap_or, false}
 use Rattle.bayou_command.specs.Connect.{Connection}
 use Rattle.bayou_command.specs.Export.{Export as Asking}
 use Rattle.bayou_command.specs.Options.{standard}
@@ -39,6 +39,7 @@ places_asked asked = record {
   log = None;
   wait_seconds = 0;
   timeout_seconds = asked.timeout_seconds;
+  is_json = false;
   input = standard;
 }
 

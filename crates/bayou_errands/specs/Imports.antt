@@ -1,5 +1,5 @@
 -- The lines that words ask to be put into a store, and what is printed then: this project's own.
-use Rattle.std.specs.Prelude.{◌≡◌, ◌++◌, ℕ, List, MatchResult, Option, None, Some, codes, decimal, option_map, string_bytes}
+use Rattle.std.specs.Prelude.{◌≡◌, ◌++◌, ℕ, List, MatchResult, Option, None, Some, codes, decimal, option_map, string_bytes, false}
 use Rattle.bayou_command.specs.Connect.{Connection}
 use Rattle.bayou_command.specs.Import.{Import as Asking}
 use Rattle.bayou_command.specs.Options.{standard}
@@ -20,6 +20,7 @@ places_met asked = record {
   log = None;
   wait_seconds = asked.wait_seconds;
   timeout_seconds = asked.timeout_seconds;
+  is_json = false;
   input = standard;
 }
 

@@ -1,5 +1,5 @@
 -- The page that words ask for: this project's own.
-use Rattle.std.specs.Prelude.{◌≡◌, ℕ, List, MatchResult, IfOk, Option, None, Some, option_map, string_bytes}
+use Rattle.std.specs.Prelude.{◌≡◌, ℕ, List, MatchResult, IfOk, Option, None, Some, option_map, string_bytes, false}
 use Rattle.bayou_command.specs.Connect.{Connection}
 use Rattle.bayou_command.specs.Options.{standard}
 use Rattle.bayou_command.specs.Web.{Web as Asking}
@@ -19,6 +19,7 @@ places_shown asked = record {
   log = None;
   wait_seconds = 0;
   timeout_seconds = asked.timeout_seconds;
+  is_json = false;
   input = standard;
 }
 

@@ -53,13 +53,14 @@ RefusesService service (Unnamed number) = RefusesWords service (Unnamed number)
 RefusesService service OutOfMemory = ⊥
 
 -- the plan asks the servers that the words name, in their order, for what they say; it waits as long as they say, gives each server as much time, and
--- prints as many counts as they say, or as are needed
+-- prints as many counts as they say, or as are needed, and rows as they say
 pub record IsPlanOfPlaces (connection : Connection) (plan : Places) : Type 0 where
   pub places : AllZip SaysPlace connection.servers plan.places.items
   pub wait : plan.wait_seconds ≡ connection.wait_seconds
   pub timeout : plan.timeout_seconds ≡ connection.timeout_seconds
   pub count : MatchOption connection.count (IsLeast plan.servers plan.places.items) (λ number. plan.servers ≡ number)
   pub asks : AskedBy connection.asks plan.asks
+  pub json : plan.is_json ≡ connection.is_json
 
 -- why the words make no plan
 abbrev pub RefusesConnection : Connection → Wrong → Type 0

@@ -83,6 +83,24 @@ pub(crate) fn kept_plan(
     }
 }
 
+// Whom the words ask, and how rows are printed, or why they name nobody who can be asked.
+fn plan_in(alloc: Global, connecting: &Connecting<'_>) -> Result<Plan, PlanFault>
+    ensures { MatchResult result (IsPlanOfPlaces (connection_seen connecting.now)) (RefusesConnection (connection_seen connecting.now)) }
+{
+    let plan = Plan::new(
+        alloc,
+        connecting.servers.as_slice(),
+        connecting.count,
+        connecting.asks,
+        connecting.wait_seconds,
+        connecting.timeout_seconds,
+    );
+    match plan {
+        Ok(plan) => Ok(plan.printing(connecting.is_json)),
+        Err(fault) => Err(fault),
+    }
+}
+
 impl Call {
     /// What the words ask for. What can't be done of them is reported when it is to be done; want of memory alone at once.
     pub fn of(alloc: Global, connecting: &Connecting<'_>) -> Result<Self, AllocError>
@@ -99,15 +117,7 @@ impl Call {
         let book = kept_name(alloc, connecting.book)?;
         let log = kept_name(alloc, connecting.log)?;
         let input = kept_name(alloc, name_of(connecting.input))?;
-        let plan = Plan::new(
-            alloc,
-            connecting.servers.as_slice(),
-            connecting.count,
-            connecting.asks,
-            connecting.wait_seconds,
-            connecting.timeout_seconds,
-        );
-        let plan = kept_plan(plan)?;
+        let plan = kept_plan(plan_in(alloc, connecting))?;
         Ok(Call {
             plan,
             key,
