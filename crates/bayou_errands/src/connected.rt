@@ -159,14 +159,20 @@ fn status_of(ended: Ended) -> u8
     }
 }
 
-// Does the lines of the file of this name, or of the input that was handed in.
+/// Whom lines are for, and the files of a session: those that it is kept in, and the one that its lines are read from, if they come from a file.
+#[derive(Drop)]
+struct Sitting<'a> {
+    plan: &'a Plan,
+    key: Option<StoreKey>,
+    names: Names<'a>,
+    lines: Option<&'a str>,
+}
+
+// Does the lines of the sitting's file, or of the input that was handed in.
 fn connect_on<I, W, E, T>(
     rt: &T,
     alloc: Global,
-    plan: &Plan,
-    key: Option<StoreKey>,
-    names: Names<'_>,
-    name: &Option<String>,
+    sitting: Sitting<'_>,
     input: Input<I>,
     output: &mut Output<W>,
     errors: &mut E,
@@ -177,10 +183,16 @@ where
     E: Write,
     T: Wait + Clock + RandomSource + fs::Files<File = File> + Sockets,
 {
-    let Some(name) = name else {
+    let Sitting {
+        plan,
+        key,
+        names,
+        lines,
+    } = sitting;
+    let Some(name) = lines else {
         return connect_plan(rt, alloc, plan, key, names, input, output, errors);
     };
-    let Ok(reader) = File::open(rt, name.as_str()) else {
+    let Ok(reader) = File::open(rt, name) else {
         return Err(ConnectFault::LinesNotOpened);
     };
     let is_terminal = reader.is_terminal();
@@ -203,10 +215,7 @@ struct Logging {
 fn connect_logged<I, W, E, T>(
     rt: &T,
     alloc: Global,
-    plan: &Plan,
-    key: Option<StoreKey>,
-    names: Names<'_>,
-    name: &Option<String>,
+    sitting: Sitting<'_>,
     log: Option<File>,
     input: Input<I>,
     output: &mut Output<W>,
@@ -220,20 +229,10 @@ where
 {
     let has_failed = AtomicBool::new(false);
     let ended = match log {
-        None => connect_on(rt, alloc, plan, key, names, name, input, output, errors),
+        None => connect_on(rt, alloc, sitting, input, output, errors),
         Some(log) => {
             let mut logged = Output::new(Logged::new(alloc, output, log, rt, &has_failed));
-            connect_on(
-                rt,
-                alloc,
-                plan,
-                key,
-                names,
-                name,
-                input,
-                &mut logged,
-                errors,
-            )
+            connect_on(rt, alloc, sitting, input, &mut logged, errors)
         }
     };
     let has_failed = has_failed.load(Ordering::SeqCst);
@@ -327,17 +326,13 @@ where
         tell_line(&mut errors, told_line(alloc, log, LOG_NOT_OPENED));
         return FAILED;
     };
-    let logging = connect_logged(
-        rt,
-        alloc,
-        &plan,
+    let lines = name.as_deref();
+    let sitting = Sitting {
+        plan: &plan,
         key,
         names,
-        &name,
-        file,
-        input,
-        output,
-        &mut errors,
-    );
-    status_told(alloc, names, name.as_deref(), log, logging, &mut errors)
+        lines,
+    };
+    let logging = connect_logged(rt, alloc, sitting, file, input, output, &mut errors);
+    status_told(alloc, names, lines, log, logging, &mut errors)
 }
