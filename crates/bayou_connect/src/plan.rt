@@ -298,7 +298,7 @@ impl Plan {
         })
     }
 
-    /// The same plan, in which `list`, `servers` and `mine` print an object a line where that is so, and lines as ever where it isn't.
+    /// The same plan, but that `list`, `servers` and `mine` print an object a line if `is_json`, and else lines as ever.
     pub fn printing(self, is_json: bool) -> Plan
         ensures { result ≡ record self { is_json = is_json } }
     {
