@@ -31,7 +31,7 @@ pub(crate) fn servers_object(alloc: Global, count: u8) -> Result<String, AllocEr
 }
 
 /// The entries of an audit file of so many servers.
-#[derive(Clone, Copy, Debug)]
+#[derive(Clone, Copy)]
 pub(crate) struct EntryObjects {
     pub count: u8,
     pub ghost in_range: { (0 < count) × (count ≤ SERVERS_NUMBER) },
@@ -58,7 +58,7 @@ impl Printer for EntryObjects {
 }
 
 /// The Writes that a server holds, in an audit file of so many servers.
-#[derive(Clone, Copy, Debug)]
+#[derive(Clone, Copy)]
 pub(crate) struct HoldingObjects {
     pub server: ServerId,
     pub count: u8,

@@ -39,7 +39,7 @@ fn listed(alloc: Global, server: ServerId, listed: &Listed) -> Result<String, Al
 }
 
 /// The log of a server.
-#[derive(Clone, Copy, Debug)]
+#[derive(Clone, Copy)]
 pub(crate) struct ListingObjects {
     pub server: ServerId,
 }

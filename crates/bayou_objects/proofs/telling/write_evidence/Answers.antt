@@ -1,4 +1,3 @@
-use Rattle.std.proofs.Common.{List, ℕ}
 use Rattle.bayou_judge.specs.History.{lent_lists}
 use Rattle.bayou_objects.specs.Objects.{dumps_json, entries_json}
 use Rattle.bayou_print.specs.Waiting.{stage}
