@@ -1,7 +1,7 @@
 //! What is asked of servers beside a session's operations.
-ghost use Rattle.std.specs.Prelude.{◌≡◌, IfOk, OnOk, string_bytes};
+ghost use Rattle.std.specs.Prelude.{◌≡◌, ◌&&◌, IfOk, OnOk, is_some, option_map, string_bytes, vec_len};
 ghost use Rattle.bayou_connect.specs.Commands.{Reopens};
-ghost use Rattle.bayou_connect.specs.Desks.{IsSameDesk};
+ghost use Rattle.bayou_connect.specs.Desks.{IsSameDesk, IsSameSeat};
 ghost use Rattle.bayou_connect.specs.Operating.{recovery_told};
 ghost use Rattle.bayou_connect.specs.Wishing.{DumpServers, Dumps, DumpsServer, TellServers, TellsServer, TellsSession, server_told, servers_at};
 ghost use Rattle.bayou_streams.specs.Account.{account};
@@ -13,6 +13,7 @@ use crate::saying::asks_line;
 use bayou_answers::{Answer, Recovery};
 use bayou_base::{ServerId, Wid};
 use bayou_client::LinkFault;
+use bayou_lang::RestingWrite;
 use bayou_net::Sockets;
 use bayou_print::{Holds, REOPEN_AWAY, dumped_line, last_line, seat_line, server_line};
 use bayou_streams::Output;
@@ -76,6 +77,21 @@ impl Desk {
         server_line(self.alloc, server, self.servers, held)
     }
 
+    // What the server tells that it holds; nothing, where it is away.
+    fn held_by<T: Sockets + Clock>(
+        &mut self,
+        rt: &T,
+        server: ServerId,
+    ) -> Result<Option<Holds>, ConnectFault>
+        ensures same { IsSameDesk self.old self.new }
+        ensures served { self.new.is_served ≡ self.old.is_served }
+    {
+        match self.store.place_of(server) {
+            None => Ok(None),
+            Some(at) => self.store.held_at(rt, at),
+        }
+    }
+
     // Prints what the server holds, or that it is away.
     fn tell_server<W: Write, T: Sockets + Clock>(
         &mut self,
@@ -85,10 +101,7 @@ impl Desk {
     ) -> Result<(), ConnectFault>
         ensures { OnOk result (TellsServer server self.old self.new (account W.contents output.old) (account W.contents output.new)) }
     {
-        let held = match self.store.place_of(server) {
-            None => None,
-            Some(at) => self.store.held_at(rt, at)?,
-        };
+        let held = self.held_by(rt, server)?;
         if held.is_none() {
             self.is_served = false;
         }
@@ -130,6 +143,44 @@ impl Desk {
         print(output, line.as_str())
     }
 
+    // The Writes that the server sends as what it holds, if it sends them.
+    fn sent_by<T: Sockets + Clock>(
+        &mut self,
+        rt: &T,
+        server: ServerId,
+    ) -> Result<Option<Vec<RestingWrite>>, ConnectFault>
+        ensures same { IsSameDesk self.old self.new }
+        ensures served { self.new.is_served ≡ self.old.is_served }
+    {
+        match self.store.place_of(server) {
+            None => Ok(None),
+            Some(at) => self.store.dump(rt, at),
+        }
+    }
+
+    // Puts what the server sent into the book, and tells how many Writes that are. That it sent nothing isn't what was asked for.
+    fn hold_sent(
+        &mut self,
+        server: ServerId,
+        sent: Option<Vec<RestingWrite>>,
+    ) -> Result<Option<usize>, ConnectFault>
+        ensures number { IfOk result (λ number. number ≡ option_map (λ writes. vec_len writes) sent) }
+        ensures served { IfOk result (λ number. self.new.is_served ≡ (self.old.is_served && is_some number)) }
+        ensures seat { IsSameSeat self.old self.new }
+        ensures sessions { (self.new.store.sessions ≡ self.old.store.sessions) × (self.new.store.state ≡ self.old.store.state) }
+    {
+        match sent {
+            None => {
+                self.is_served = false;
+                Ok(None)
+            }
+            Some(writes) => {
+                self.store.hold(server, &writes)?;
+                Ok(Some(writes.len()))
+            }
+        }
+    }
+
     // Puts what the server holds into the book, if it sends it, and prints how many Writes that are.
     fn dump_server<W: Write, T: Sockets + Clock>(
         &mut self,
@@ -139,20 +190,8 @@ impl Desk {
     ) -> Result<(), ConnectFault>
         ensures { OnOk result (DumpsServer server self.old self.new (account W.contents output.old) (account W.contents output.new)) }
     {
-        let sent = match self.store.place_of(server) {
-            None => None,
-            Some(at) => self.store.dump(rt, at)?,
-        };
-        let number = match sent {
-            None => {
-                self.is_served = false;
-                None
-            }
-            Some(writes) => {
-                self.store.hold(server, &writes)?;
-                Some(writes.len())
-            }
-        };
+        let sent = self.sent_by(rt, server)?;
+        let number = self.hold_sent(server, sent)?;
         let line = dumped_line(self.alloc, server, number)?;
         print(output, line.as_str())
     }
