@@ -2,8 +2,8 @@
 use Rattle.std.proofs.Common.{◌≡◌, ◌↔◌, ℕ, inl, inr, refl, List, Option, None, Some, Result, Ok, Err, IfOk}
 use Rattle.std.specs.Prelude.{option_map}
 use Rattle.bayou_check.specs.Checked.{ChecksAudit, ChecksScript, IsTaken, IsTakenAs}
-use Rattle.bayou_check.specs.declared.kind.Kind.TheVariants.{Audit, Script}
-use Rattle.bayou_check.specs.declared.told.Told.{Told}
+use Rattle.bayou_check.specs.declared.kind.TextKind.TheVariants.{Audit, Script}
+use Rattle.bayou_check.specs.declared.told.FaultyLine.{FaultyLine}
 use Rattle.bayou_script.specs.AuditFile.{Evidence, IsAuditFile, IsAuditRefused}
 use Rattle.bayou_script.specs.Script.{IsRefused, IsScript, Plan}
 use Rattle.bayou_script.specs.declared.fault.ScriptFault.{ScriptFault}
@@ -23,14 +23,14 @@ pub neither : (lines : List (List ℕ)) (number more : ℕ) (fault other : Scrip
 neither lines number more fault other not_script not_audit refused audit_refused (inl taken) = not_script lines taken.0 number fault taken.1 refused
 neither lines number more fault other not_script not_audit refused audit_refused (inr taken) = not_audit lines taken.0 more other taken.1 audit_refused
 
-pub script_nothing : (lines : List (List ℕ)) (least : Option Told) → NotScript
+pub script_nothing : (lines : List (List ℕ)) (least : Option FaultyLine) → NotScript
     → ChecksScript lines (option_map (λ told. record { number = told.line; fault = told.fault }) least)
     → (IsTaken lines → IsTakenAs Script lines) → (least ≡ None) ↔ IsTaken lines
 script_nothing lines None not_script checks taken_as = (λ _. inl checks, λ _. refl)
 script_nothing lines (Some told) not_script checks taken_as =
     (λ is. absurd (cc), λ taken. absurd (not_script lines (taken_as taken).0 told.line told.fault (taken_as taken).1 checks))
 
-pub audit_nothing : (lines : List (List ℕ)) (least : Option Told) → NotAudit
+pub audit_nothing : (lines : List (List ℕ)) (least : Option FaultyLine) → NotAudit
     → ChecksAudit lines (option_map (λ told. record { number = told.line; fault = told.fault }) least)
     → (IsTaken lines → IsTakenAs Audit lines) → (least ≡ None) ↔ IsTaken lines
 audit_nothing lines None not_audit checks taken_as = (λ _. inr checks, λ _. refl)

@@ -1,8 +1,8 @@
 -- What a report says of a text: the least line with a fault is the one for which the text is refused, and there is none where it is taken.
 use Rattle.std.specs.Prelude.{ℕ, ◌⊎◌, List, Option, MatchOption, option_map}
 use Rattle.bayou_check.specs.declared.report.Report.{Report}
-use Rattle.bayou_check.specs.declared.kind.Kind.{Kind}
-use Rattle.bayou_check.specs.declared.kind.Kind.TheVariants.{Audit, Script}
+use Rattle.bayou_check.specs.declared.kind.TextKind.{TextKind}
+use Rattle.bayou_check.specs.declared.kind.TextKind.TheVariants.{Audit, Script}
 use Rattle.bayou_check.specs.declared.least.Least.{Least}
 use Rattle.bayou_script.specs.AuditFile.{Evidence, IsAuditFile, IsAuditRefused}
 use Rattle.bayou_script.specs.Network.{IsNetworkRefused, IsNetworkScript}
@@ -25,7 +25,7 @@ abbrev pub ChecksAudit : List (List ℕ) → Option Least → Type 0
 ChecksAudit lines least = MatchOption least ((evidence : Evidence) × IsAuditFile lines evidence) (λ least. IsAuditRefused lines least.number least.fault)
 
 -- the lines are taken as this kind of text
-abbrev pub IsTakenAs : Kind → List (List ℕ) → Type 0
+abbrev pub IsTakenAs : TextKind → List (List ℕ) → Type 0
 IsTakenAs Script lines = (plan : Plan) × IsScript lines plan
 IsTakenAs Audit lines = (evidence : Evidence) × IsAuditFile lines evidence
 

@@ -1,8 +1,8 @@
 -- What of a report is shown: the numbers of the lines for which a text is refused.
 use Rattle.std.specs.Prelude.{◌≡◌, ℕ, List, ◌++◌, Option, None, Some, codes, decimal}
-use Rattle.bayou_check.specs.declared.kind.Kind.{Kind}
-use Rattle.bayou_check.specs.declared.kind.Kind.TheVariants.{Audit, Script}
-use Rattle.bayou_check.specs.declared.told.Told.{Told}
+use Rattle.bayou_check.specs.declared.kind.TextKind.{TextKind}
+use Rattle.bayou_check.specs.declared.kind.TextKind.TheVariants.{Audit, Script}
+use Rattle.bayou_check.specs.declared.told.FaultyLine.{FaultyLine}
 
 -- the text begins with this
 abbrev pub BeginsWith : List ℕ → List ℕ → Type 0
@@ -17,11 +17,11 @@ abbrev pub head_text : ℕ → List ℕ
 head_text number = codes "bayou: line " ++ (decimal number ++ codes ": ")
 
 -- the command that takes the kind
-abbrev pub command_text : Kind → List ℕ
+abbrev pub command_text : TextKind → List ℕ
 command_text Script = codes "run"
 command_text Audit = codes "audit"
 
 -- that nothing is wrong, or which line is refused
-abbrev pub outcome_text : Kind → Option Told → List ℕ
+abbrev pub outcome_text : TextKind → Option FaultyLine → List ℕ
 outcome_text kind None = codes "; nothing is wrong: bayou " ++ command_text kind
 outcome_text kind (Some told) = codes "; bayou " ++ (command_text kind ++ (codes " refuses line " ++ decimal told.line))

@@ -1,17 +1,17 @@
 //! All the faults of a text.
 ghost use Rattle.std.specs.Prelude.{◌≡◌, ◌↔◌, ◌≤◌, IfOk, MatchOption, None, Some, vec_len};
 ghost use Rattle.bayou_script.specs.Order.{lines_of};
-ghost use Rattle.bayou_check.specs.declared.kind.Kind.TheVariants.{Audit, Script};
+ghost use Rattle.bayou_check.specs.declared.kind.TextKind.TheVariants.{Audit, Script};
 ghost use Rattle.bayou_check.specs.Checked.{ChecksAudit, ChecksNetwork, ChecksScript, IsTaken, IsTakenAs, least_told};
 
 use crate::cut::{Lines, Numbered, count_lines};
-use crate::kind::Kind;
+use crate::kind::TextKind;
 use crate::least::{Least, least_fault};
 use crate::look::look_line;
 use crate::report::Report;
-use crate::standing::Standing;
+use crate::standing::LinesStanding;
 use crate::telling::{Faulty, tell};
-use crate::told::{Looked, Mistake, Told};
+use crate::told::{FaultyLine, Looked, Mistake};
 use crate::within::headed;
 use bayou_base::{SERVERS, SESSIONS, SessionId};
 use bayou_script::laws::{a_script_is_read_in_one_way, an_audit_file_is_read_in_one_way};
@@ -25,7 +25,7 @@ use std::str;
 pub const MAX_TOLD: usize = 1_000;
 
 // The word that the line begins with, if it is JSON that begins with one: whether it is one of an audit file alone, or one of a script alone.
-fn kind_of_line(alloc: Global, bytes: &[u8]) -> Result<Option<Kind>, AllocError> {
+fn kind_of_line(alloc: Global, bytes: &[u8]) -> Result<Option<TextKind>, AllocError> {
     let Some(json) = json_of(alloc, bytes)? else {
         return Ok(None);
     };
@@ -34,35 +34,35 @@ fn kind_of_line(alloc: Global, bytes: &[u8]) -> Result<Option<Kind>, AllocError>
     };
     Ok(match word {
         "servers" => None,
-        "entry" | "held" => Some(Kind::Audit),
-        _ if Kind::Script.known().contains(&word) => Some(Kind::Script),
+        "entry" | "held" => Some(TextKind::Audit),
+        _ if TextKind::Script.known().contains(&word) => Some(TextKind::Script),
         _ => None,
     })
 }
 
 // That of the first line whose word only one kind has. A text without one is a script.
-fn kind_by_words(alloc: Global, text: &[u8]) -> Result<Kind, AllocError> {
+fn kind_by_words(alloc: Global, text: &[u8]) -> Result<TextKind, AllocError> {
     let mut lines = Lines::of(text);
     while let Some(line) = lines.take() {
         if let Some(kind) = kind_of_line(alloc, line.bytes)? {
             return Ok(kind);
         }
     }
-    Ok(Kind::Script)
+    Ok(TextKind::Script)
 }
 
 /// Which kind of text it is: one that it is taken as, if it is taken; else that of its first line whose word only one kind has. A text without one
 /// is a script.
-pub fn kind_of(alloc: Global, text: &[u8]) -> Result<Kind, AllocError>
+pub fn kind_of(alloc: Global, text: &[u8]) -> Result<TextKind, AllocError>
     ensures { IfOk result (λ kind. IsTaken (lines_of text.now) → IsTakenAs kind (lines_of text.now)) }
 {
     a_script_is_read_in_one_way();
     an_audit_file_is_read_in_one_way();
     let Some(_) = least_fault::<Draft>(alloc, text)? else {
-        return Ok(Kind::Script);
+        return Ok(TextKind::Script);
     };
     let Some(_) = least_fault::<AuditDraft>(alloc, text)? else {
-        return Ok(Kind::Audit);
+        return Ok(TextKind::Audit);
     };
     kind_by_words(alloc, text)
 }
@@ -136,7 +136,7 @@ fn number_meant(json: Option<&Json>, least: u8, most: u8) -> Option<u8> {
 }
 
 // Goes on after a line with a fault, which is as if it weren't there: but the servers and the session that it speaks of are there.
-fn presume(standing: &mut Standing, number: u64, json: &Json) {
+fn presume(standing: &mut LinesStanding, number: u64, json: &Json) {
     if let Some(session) = session_meant(json) {
         standing.presume_session(number, session);
     }
@@ -157,8 +157,8 @@ enum Seen {
 // A line that wasn't read.
 fn look_unread(
     alloc: Global,
-    kind: Kind,
-    standing: &mut Standing,
+    kind: TextKind,
+    standing: &mut LinesStanding,
     line: Numbered<'_>,
     fault: ScriptFault,
 ) -> Result<Seen, AllocError> {
@@ -173,8 +173,8 @@ fn look_unread(
 // A line, after those that were looked at.
 fn look_at(
     alloc: Global,
-    kind: Kind,
-    standing: &mut Standing,
+    kind: TextKind,
+    standing: &mut LinesStanding,
     line: Numbered<'_>,
 ) -> Result<Seen, AllocError> {
     if line.bytes.is_empty() {
@@ -198,8 +198,8 @@ fn look_at(
 // The lines before this one, which have no fault; and this one, which each text has.
 fn lines_before<'a>(
     alloc: Global,
-    kind: Kind,
-    standing: &mut Standing,
+    kind: TextKind,
+    standing: &mut LinesStanding,
     lines: &mut Lines<'a>,
     number: u64,
 ) -> Result<&'a [u8], AllocError> {
@@ -215,10 +215,10 @@ fn lines_before<'a>(
 // The lines that are left: those with a fault, and how many have one.
 fn lines_behind(
     alloc: Global,
-    kind: Kind,
-    standing: &mut Standing,
+    kind: TextKind,
+    standing: &mut LinesStanding,
     lines: &mut Lines<'_>,
-) -> Result<(Vec<Told>, u64), AllocError>
+) -> Result<(Vec<FaultyLine>, u64), AllocError>
     ensures { IfOk result (λ told. vec_len told.0 ≤ told.1) }
 {
     let mut others = Vec::new(alloc);
@@ -243,11 +243,11 @@ fn lines_behind(
 // The least line with a fault, as it is reported.
 fn tell_least(
     alloc: Global,
-    kind: Kind,
-    standing: &mut Standing,
+    kind: TextKind,
+    standing: &mut LinesStanding,
     least: Least,
     bytes: &[u8],
-) -> Result<Told, AllocError>
+) -> Result<FaultyLine, AllocError>
     ensures { IfOk result (λ told. (told.line ≡ least.number) × (told.fault ≡ least.fault)) }
 {
     let line = Numbered {
@@ -269,7 +269,7 @@ fn tell_least(
 // What is reported of a text that is refused for this line.
 fn refused(
     alloc: Global,
-    kind: Kind,
+    kind: TextKind,
     text: &[u8],
     least: Least,
     network: Option<Least>,
@@ -278,7 +278,7 @@ fn refused(
     ensures least { IfOk result (λ report. least_told report ≡ Some least) }
     ensures network { IfOk result (λ report. report.network ≡ network) }
 {
-    let mut standing = Standing::new(opens_of(alloc, text)?);
+    let mut standing = LinesStanding::new(opens_of(alloc, text)?);
     let mut lines = Lines::of(text);
     let bytes = lines_before(alloc, kind, &mut standing, &mut lines, least.number)?;
     let told = tell_least(alloc, kind, &mut standing, least, bytes)?;
@@ -297,7 +297,7 @@ fn refused(
 // What is reported of a text that isn't refused.
 fn taken(
     alloc: Global,
-    kind: Kind,
+    kind: TextKind,
     text: &[u8],
     network: Option<Least>,
 ) -> Result<Report, AllocError>
@@ -305,7 +305,7 @@ fn taken(
     ensures least { IfOk result (λ report. report.least ≡ None) }
     ensures network { IfOk result (λ report. report.network ≡ network) }
 {
-    let mut standing = Standing::new([0; SESSIONS]);
+    let mut standing = LinesStanding::new([0; SESSIONS]);
     let mut lines = Lines::of(text);
     while let Some(line) = lines.take() {
         look_at(alloc, kind, &mut standing, line)?;
@@ -323,7 +323,7 @@ fn taken(
 
 fn report_of(
     alloc: Global,
-    kind: Kind,
+    kind: TextKind,
     text: &[u8],
     least: Option<Least>,
     network: Option<Least>,
@@ -346,7 +346,7 @@ pub fn check_script(alloc: Global, text: &[u8]) -> Result<Report, AllocError>
 {
     let least = least_fault::<Draft>(alloc, text)?;
     let network = least_fault::<NetworkDraft>(alloc, text)?;
-    report_of(alloc, Kind::Script, text, least, network)
+    report_of(alloc, TextKind::Script, text, least, network)
 }
 
 /// What is reported of an audit file.
@@ -355,7 +355,7 @@ pub fn check_audit(alloc: Global, text: &[u8]) -> Result<Report, AllocError>
     ensures least { IfOk result (λ report. ChecksAudit (lines_of text.now) (least_told report)) }
 {
     let least = least_fault::<AuditDraft>(alloc, text)?;
-    report_of(alloc, Kind::Audit, text, least, None)
+    report_of(alloc, TextKind::Audit, text, least, None)
 }
 
 /// What is reported of a text, as the kind that it is. Nothing is wrong with a text that is taken as either kind, and with no other.
@@ -367,7 +367,7 @@ pub fn check_text(alloc: Global, text: &[u8]) -> Result<Report, AllocError>
     a_script_is_read_in_one_way();
     an_audit_file_is_read_in_one_way();
     match kind_of(alloc, text)? {
-        Kind::Script => check_script(alloc, text),
-        Kind::Audit => check_audit(alloc, text),
+        TextKind::Script => check_script(alloc, text),
+        TextKind::Audit => check_audit(alloc, text),
     }
 }

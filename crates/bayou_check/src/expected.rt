@@ -1,7 +1,7 @@
 //! What is expected where a fault was found.
-use crate::forms::Form;
-use crate::kind::Kind;
-use crate::page::Page;
+use crate::forms::ArrayForm;
+use crate::kind::TextKind;
+use crate::page::ManualPage;
 use crate::parts::{List, Part};
 use std::fmt;
 
@@ -24,8 +24,8 @@ pub enum Expected {
     // Lines of another shape.
     ShortLine,
     Array,
-    Command(Kind),
-    Members(Form),
+    Command(TextKind),
+    Members(ArrayForm),
     EntryMembers,
     Number(Part),
     Unquoted(Part),
@@ -68,11 +68,12 @@ pub enum Expected {
 
 impl Expected {
     /// The page that says more.
-    pub fn page(self) -> Page {
+    pub fn page(self) -> ManualPage {
         match self {
-            Expected::Key | Expected::Prefix | Expected::Value | Expected::Term => Page::Language,
+            Expected::Key | Expected::Prefix | Expected::Value | Expected::Term =>
+                ManualPage::Language,
             Expected::TermWord | Expected::Op | Expected::OpWord | Expected::Program => {
-                Page::Language
+                ManualPage::Language
             }
             Expected::ProgramMember
             | Expected::Alternative
@@ -80,23 +81,23 @@ impl Expected {
             | Expected::Listed(_)
             | Expected::Fewer(_)
             | Expected::Condition
-            | Expected::ConditionWord => Page::Language,
-            Expected::Asks | Expected::Ask => Page::Asks,
+            | Expected::ConditionWord => ManualPage::Language,
+            Expected::Asks | Expected::Ask => ManualPage::Asks,
             Expected::Vector
             | Expected::Counts(_)
             | Expected::EntryWord(_, _)
             | Expected::EntryMembers
             | Expected::HeldWrite
             | Expected::FewEntries
-            | Expected::OnlyAudit => Page::AuditLines,
+            | Expected::OnlyAudit => ManualPage::AuditLines,
             Expected::Members(form) => form.page(),
             Expected::Number(part) | Expected::Unquoted(part) => part.page(),
-            Expected::Command(Kind::Audit) => Page::AuditLines,
+            Expected::Command(TextKind::Audit) => ManualPage::AuditLines,
             _ => self.page_of_lines(),
         }
     }
 
-    fn page_of_lines(self) -> Page {
+    fn page_of_lines(self) -> ManualPage {
         match self {
             Expected::SomeLine
             | Expected::ServersFirst
@@ -106,9 +107,9 @@ impl Expected {
             | Expected::OpenSession(_)
             | Expected::NewSession
             | Expected::OnlyScript
-            | Expected::FewLines => Page::Script,
-            Expected::Command(_) => Page::Commands,
-            _ => Page::Lines,
+            | Expected::FewLines => ManualPage::Script,
+            Expected::Command(_) => ManualPage::Commands,
+            _ => ManualPage::Lines,
         }
     }
 

@@ -4,7 +4,7 @@ use std::fmt;
 
 /// What an array with a word at its head is: a line, or an array of a program.
 #[derive(Clone, Copy, Debug, PartialEq, Eq)]
-pub enum Form {
+pub enum ArrayForm {
     Servers,
     Session,
     Write,
@@ -46,76 +46,76 @@ pub(crate) const COMMANDS: [&str; 18] = [
 /// The words of the lines of an audit file.
 pub(crate) const TOLD: [&str; 3] = ["servers", "entry", "held"];
 
-impl Form {
+impl ArrayForm {
     /// The line that begins with this word; `None` of `entry`, which has three forms.
-    pub(crate) fn of_line(word: &str) -> Option<Form> {
+    pub(crate) fn of_line(word: &str) -> Option<ArrayForm> {
         let form = match word {
-            "servers" => Form::Servers,
-            "session" => Form::Session,
-            "write" => Form::Write,
-            "read" => Form::Read,
-            "again" => Form::Again,
-            "drop" => Form::Drop,
-            "log" => Form::Log,
-            "fuse" => Form::Fuse,
-            "lose" => Form::Lose,
-            "held" => Form::Held,
-            _ => return Form::of_short_line(word),
+            "servers" => ArrayForm::Servers,
+            "session" => ArrayForm::Session,
+            "write" => ArrayForm::Write,
+            "read" => ArrayForm::Read,
+            "again" => ArrayForm::Again,
+            "drop" => ArrayForm::Drop,
+            "log" => ArrayForm::Log,
+            "fuse" => ArrayForm::Fuse,
+            "lose" => ArrayForm::Lose,
+            "held" => ArrayForm::Held,
+            _ => return ArrayForm::of_short_line(word),
         };
         Some(form)
     }
 
-    fn of_short_line(word: &str) -> Option<Form> {
+    fn of_short_line(word: &str) -> Option<ArrayForm> {
         let form = match word {
-            "reopen" => Form::Reopen,
-            "restart" => Form::Restart,
-            "pull" => Form::Pull,
-            "resend" => Form::Resend,
-            "totals" => Form::Totals,
-            "judge" => Form::Judge,
-            "survey" => Form::Survey,
-            "book" => Form::Book,
-            "phase" => Form::Phase,
+            "reopen" => ArrayForm::Reopen,
+            "restart" => ArrayForm::Restart,
+            "pull" => ArrayForm::Pull,
+            "resend" => ArrayForm::Resend,
+            "totals" => ArrayForm::Totals,
+            "judge" => ArrayForm::Judge,
+            "survey" => ArrayForm::Survey,
+            "book" => ArrayForm::Book,
+            "phase" => ArrayForm::Phase,
             _ => return None,
         };
         Some(form)
     }
 
     /// The form of an entry with so many members.
-    pub(crate) fn of_entry(members: usize) -> Option<Form> {
+    pub(crate) fn of_entry(members: usize) -> Option<ArrayForm> {
         match members {
-            6 => Some(Form::Refused),
-            8 => Some(Form::Served),
-            9 => Some(Form::Accepted),
+            6 => Some(ArrayForm::Refused),
+            8 => Some(ArrayForm::Served),
+            9 => Some(ArrayForm::Accepted),
             _ => None,
         }
     }
 
     /// The op that begins with this word.
-    pub(crate) fn of_op(word: &str) -> Option<Form> {
+    pub(crate) fn of_op(word: &str) -> Option<ArrayForm> {
         match word {
-            "put" => Some(Form::Put),
-            "del" => Some(Form::Del),
+            "put" => Some(ArrayForm::Put),
+            "del" => Some(ArrayForm::Del),
             _ => None,
         }
     }
 
     /// The term that begins with this word.
-    pub(crate) fn of_term(word: &str) -> Option<Form> {
+    pub(crate) fn of_term(word: &str) -> Option<ArrayForm> {
         match word {
-            "copy" => Some(Form::Copy),
-            "plus" => Some(Form::Plus),
+            "copy" => Some(ArrayForm::Copy),
+            "plus" => Some(ArrayForm::Plus),
             _ => None,
         }
     }
 
     /// The condition that begins with this word.
-    pub(crate) fn of_condition(word: &str) -> Option<Form> {
+    pub(crate) fn of_condition(word: &str) -> Option<ArrayForm> {
         match word {
-            "equals" => Some(Form::Equals),
-            "absent" => Some(Form::Absent),
-            "atleast" => Some(Form::AtLeast),
-            "atmost" => Some(Form::AtMost),
+            "equals" => Some(ArrayForm::Equals),
+            "absent" => Some(ArrayForm::Absent),
+            "atleast" => Some(ArrayForm::AtLeast),
+            "atmost" => Some(ArrayForm::AtMost),
             _ => None,
         }
     }
@@ -123,31 +123,35 @@ impl Form {
     /// What stands after the word.
     pub(crate) fn parts(self) -> &'static [Part] {
         match self {
-            Form::Servers => &[Part::Count, Part::Limit],
-            Form::Session => &[Part::Session, Part::Asks],
-            Form::Write => &[Part::Session, Part::Server, Part::Program],
-            Form::Read => &[Part::Session, Part::Server, Part::Key],
-            Form::Again | Form::Drop => &[Part::Session],
-            Form::Log | Form::Reopen | Form::Restart => &[Part::Server],
-            Form::Fuse => &[Part::Server, Part::Calls, Part::Kept],
-            Form::Lose => &[Part::Server, Part::Lost],
-            Form::Pull => &[Part::Server, Part::Server, Part::Items],
-            Form::Resend => &[Part::Server, Part::Server],
-            Form::Totals | Form::Judge | Form::Survey | Form::Book | Form::Phase => &[],
+            ArrayForm::Servers => &[Part::Count, Part::Limit],
+            ArrayForm::Session => &[Part::Session, Part::Asks],
+            ArrayForm::Write => &[Part::Session, Part::Server, Part::Program],
+            ArrayForm::Read => &[Part::Session, Part::Server, Part::Key],
+            ArrayForm::Again | ArrayForm::Drop => &[Part::Session],
+            ArrayForm::Log | ArrayForm::Reopen | ArrayForm::Restart => &[Part::Server],
+            ArrayForm::Fuse => &[Part::Server, Part::Calls, Part::Kept],
+            ArrayForm::Lose => &[Part::Server, Part::Lost],
+            ArrayForm::Pull => &[Part::Server, Part::Server, Part::Items],
+            ArrayForm::Resend => &[Part::Server, Part::Server],
+            ArrayForm::Totals
+            | ArrayForm::Judge
+            | ArrayForm::Survey
+            | ArrayForm::Book
+            | ArrayForm::Phase => &[],
             _ => self.told_parts(),
         }
     }
 
     fn told_parts(self) -> &'static [Part] {
         match self {
-            Form::Refused => &[
+            ArrayForm::Refused => &[
                 Part::Session,
                 Part::Place,
                 Part::Asks,
                 Part::Server,
                 Part::WordRefused,
             ],
-            Form::Served => &[
+            ArrayForm::Served => &[
                 Part::Session,
                 Part::Place,
                 Part::Asks,
@@ -156,7 +160,7 @@ impl Form {
                 Part::Key,
                 Part::Vector,
             ],
-            Form::Accepted => &[
+            ArrayForm::Accepted => &[
                 Part::Session,
                 Part::Place,
                 Part::Asks,
@@ -166,12 +170,12 @@ impl Form {
                 Part::Clock,
                 Part::Vector,
             ],
-            Form::Held => &[Part::Server, Part::Write],
-            Form::Put => &[Part::Key, Part::Term],
-            Form::Del | Form::Copy | Form::Absent => &[Part::Key],
-            Form::Plus | Form::AtLeast => &[Part::Key, Part::Integer],
-            Form::Equals => &[Part::Key, Part::Value],
-            Form::AtMost => &[Part::Prefix, Part::Most],
+            ArrayForm::Held => &[Part::Server, Part::Write],
+            ArrayForm::Put => &[Part::Key, Part::Term],
+            ArrayForm::Del | ArrayForm::Copy | ArrayForm::Absent => &[Part::Key],
+            ArrayForm::Plus | ArrayForm::AtLeast => &[Part::Key, Part::Integer],
+            ArrayForm::Equals => &[Part::Key, Part::Value],
+            ArrayForm::AtMost => &[Part::Prefix, Part::Most],
             _ => &[],
         }
     }
@@ -179,56 +183,57 @@ impl Form {
     /// How many of its last parts may be missing.
     pub(crate) fn optional(self) -> usize {
         match self {
-            Form::Servers | Form::Pull => 1,
+            ArrayForm::Servers | ArrayForm::Pull => 1,
             _ => 0,
         }
     }
 
     pub(crate) fn text(self) -> &'static str {
         match self {
-            Form::Servers => r#"["servers",N] or ["servers",N,LIMIT]"#,
-            Form::Session =>
+            ArrayForm::Servers => r#"["servers",N] or ["servers",N,LIMIT]"#,
+            ArrayForm::Session =>
                 r#"["session",SESSION,["ryw","mr","wfr","mw"]], with those guarantees that it asks for"#,
-            Form::Write => r#"["write",SESSION,SERVER,PROGRAM]"#,
-            Form::Read => r#"["read",SESSION,SERVER,KEY]"#,
-            Form::Again => r#"["again",SESSION]"#,
-            Form::Drop => r#"["drop",SESSION]"#,
-            Form::Log => r#"["log",SERVER]"#,
-            Form::Fuse => r#"["fuse",SERVER,CALL,KEPT]"#,
-            Form::Lose => r#"["lose",SERVER,COUNT]"#,
-            Form::Reopen => r#"["reopen",SERVER]"#,
-            Form::Restart => r#"["restart",SERVER]"#,
-            Form::Pull => r#"["pull",TO,FROM] or ["pull",TO,FROM,ITEMS]"#,
-            Form::Resend => r#"["resend",TO,FROM]"#,
-            Form::Totals => r#"["totals"]"#,
-            Form::Judge => r#"["judge"]"#,
-            Form::Survey => r#"["survey"]"#,
-            Form::Book => r#"["book"]"#,
-            Form::Phase => r#"["phase"]"#,
+            ArrayForm::Write => r#"["write",SESSION,SERVER,PROGRAM]"#,
+            ArrayForm::Read => r#"["read",SESSION,SERVER,KEY]"#,
+            ArrayForm::Again => r#"["again",SESSION]"#,
+            ArrayForm::Drop => r#"["drop",SESSION]"#,
+            ArrayForm::Log => r#"["log",SERVER]"#,
+            ArrayForm::Fuse => r#"["fuse",SERVER,CALL,KEPT]"#,
+            ArrayForm::Lose => r#"["lose",SERVER,COUNT]"#,
+            ArrayForm::Reopen => r#"["reopen",SERVER]"#,
+            ArrayForm::Restart => r#"["restart",SERVER]"#,
+            ArrayForm::Pull => r#"["pull",TO,FROM] or ["pull",TO,FROM,ITEMS]"#,
+            ArrayForm::Resend => r#"["resend",TO,FROM]"#,
+            ArrayForm::Totals => r#"["totals"]"#,
+            ArrayForm::Judge => r#"["judge"]"#,
+            ArrayForm::Survey => r#"["survey"]"#,
+            ArrayForm::Book => r#"["book"]"#,
+            ArrayForm::Phase => r#"["phase"]"#,
             _ => self.told_text(),
         }
     }
 
     fn told_text(self) -> &'static str {
         match self {
-            Form::Refused => r#"["entry",SESSION,PLACE,ASKS,SERVER,"refused"]"#,
-            Form::Served => r#"["entry",SESSION,PLACE,ASKS,SERVER,"read",KEY,VECTOR]"#,
-            Form::Accepted => r#"["entry",SESSION,PLACE,ASKS,SERVER,"write",SEQ,CLOCK,VECTOR]"#,
-            Form::Held => r#"["held",SERVER,[ORIGIN,SEQ,CLOCK,VECTOR,PROGRAM]]"#,
-            Form::Put => r#"["put",KEY,VALUE]"#,
-            Form::Del => r#"["del",KEY]"#,
-            Form::Copy => r#"["copy",KEY]"#,
-            Form::Plus => r#"["plus",KEY,NUMBER]"#,
-            Form::Equals => r#"["equals",KEY,VALUE]"#,
-            Form::Absent => r#"["absent",KEY]"#,
-            Form::AtLeast => r#"["atleast",KEY,NUMBER]"#,
-            Form::AtMost => r#"["atmost",PREFIX,COUNT]"#,
+            ArrayForm::Refused => r#"["entry",SESSION,PLACE,ASKS,SERVER,"refused"]"#,
+            ArrayForm::Served => r#"["entry",SESSION,PLACE,ASKS,SERVER,"read",KEY,VECTOR]"#,
+            ArrayForm::Accepted =>
+                r#"["entry",SESSION,PLACE,ASKS,SERVER,"write",SEQ,CLOCK,VECTOR]"#,
+            ArrayForm::Held => r#"["held",SERVER,[ORIGIN,SEQ,CLOCK,VECTOR,PROGRAM]]"#,
+            ArrayForm::Put => r#"["put",KEY,VALUE]"#,
+            ArrayForm::Del => r#"["del",KEY]"#,
+            ArrayForm::Copy => r#"["copy",KEY]"#,
+            ArrayForm::Plus => r#"["plus",KEY,NUMBER]"#,
+            ArrayForm::Equals => r#"["equals",KEY,VALUE]"#,
+            ArrayForm::Absent => r#"["absent",KEY]"#,
+            ArrayForm::AtLeast => r#"["atleast",KEY,NUMBER]"#,
+            ArrayForm::AtMost => r#"["atmost",PREFIX,COUNT]"#,
             _ => "",
         }
     }
 }
 
-impl fmt::Display for Form {
+impl fmt::Display for ArrayForm {
     fn fmt<W: fmt::Write>(&self, f: &mut fmt::Formatter<W>) -> fmt::Result {
         let form = *self;
         f.write_str(form.text())

@@ -1,6 +1,6 @@
 //! A report as lines of JSON, for programs.
 use crate::report::Report;
-use crate::told::{Step, Told};
+use crate::told::{FaultyLine, Step};
 use serde_json::{Value as Json, json};
 use std::alloc::{AllocError, Global};
 
@@ -37,7 +37,7 @@ fn line_of(alloc: Global, json: &Json) -> Result<String, AllocError> {
 }
 
 // The line that it may be meant as.
-fn fix_of(told: &Told) -> Option<&str> {
+fn fix_of(told: &FaultyLine) -> Option<&str> {
     match &told.fix {
         Some(meant) => Some(meant.line.as_str()),
         None => None,
@@ -45,7 +45,7 @@ fn fix_of(told: &Told) -> Option<&str> {
 }
 
 /// The object of a line with a fault, in the file of this name.
-pub fn told_json(alloc: Global, file: &str, told: &Told) -> Result<String, AllocError> {
+pub fn told_json(alloc: Global, file: &str, told: &FaultyLine) -> Result<String, AllocError> {
     let fault = told.fault.to_string(alloc)?;
     let found = told.found.to_string(alloc)?;
     let expected = told.expected.to_string(alloc)?;

@@ -7,28 +7,28 @@ use std::fmt;
 
 /// What a text is checked as.
 #[derive(Clone, Copy, Debug, PartialEq, Eq)]
-pub enum Kind {
+pub enum TextKind {
     /// A script, which `bayou run` takes.
     Script,
     /// An audit file, which `bayou audit` takes.
     Audit,
 }
 
-impl Kind {
+impl TextKind {
     /// The words that its lines begin with.
     pub(crate) fn known(self) -> &'static [&'static str] {
         match self {
-            Kind::Script => &COMMANDS,
-            Kind::Audit => &TOLD,
+            TextKind::Script => &COMMANDS,
+            TextKind::Audit => &TOLD,
         }
     }
 
     pub(crate) fn words(self) -> &'static str {
         match self {
-            Kind::Script => {
+            TextKind::Script => {
                 "a command: servers, session, write, read, again, drop, log, fuse, lose, reopen, restart, pull, resend, totals, judge, survey, book or phase"
             }
-            Kind::Audit => "servers, entry or held",
+            TextKind::Audit => "servers, entry or held",
         }
     }
 
@@ -37,17 +37,17 @@ impl Kind {
         ensures { result.now ≡ command_text self }
     {
         match self {
-            Kind::Script => "run",
-            Kind::Audit => "audit",
+            TextKind::Script => "run",
+            TextKind::Audit => "audit",
         }
     }
 }
 
-impl fmt::Display for Kind {
+impl fmt::Display for TextKind {
     fn fmt<W: fmt::Write>(&self, f: &mut fmt::Formatter<W>) -> fmt::Result {
         f.write_str(match *self {
-            Kind::Script => "script",
-            Kind::Audit => "audit file",
+            TextKind::Script => "script",
+            TextKind::Audit => "audit file",
         })
     }
 }

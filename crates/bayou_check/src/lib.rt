@@ -36,9 +36,9 @@ mod within;
 
 pub use check::{check_audit, check_script, check_text, kind_of};
 pub use json_lines::{summary_json, told_json};
-pub use kind::Kind;
+pub use kind::TextKind;
 pub use least::{Least, least_fault};
 pub use meant::Meant;
 pub use report::Report;
 pub use show::{summary_text, told_text};
-pub use told::{Span, Step, Told};
+pub use told::{FaultyLine, Step, TextSpan};

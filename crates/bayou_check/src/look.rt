@@ -1,7 +1,7 @@
 //! A tolerant look at a line that wasn't read: which member is at fault first, in the order in which a reader comes to them.
 use crate::expected::Expected;
-use crate::forms::Form;
-use crate::kind::Kind;
+use crate::forms::ArrayForm;
+use crate::kind::TextKind;
 use crate::leaf::{look_plain, misshapen, unknown};
 use crate::parts::Part;
 use crate::told::{Looked, Step, under};
@@ -62,7 +62,7 @@ fn look_part(alloc: Global, part: Part, members: usize, json: &Json) -> Looked {
     }
 }
 
-fn look_members(alloc: Global, form: Form, members: &[Json]) -> Looked {
+fn look_members(alloc: Global, form: ArrayForm, members: &[Json]) -> Looked {
     if !fits(form, members.len()) {
         return miscounted(alloc, members, Expected::Members(form));
     }
@@ -76,8 +76,8 @@ fn look_members(alloc: Global, form: Form, members: &[Json]) -> Looked {
 }
 
 // The form of an entry with the word that it has, whatever its number of members; else of so many members.
-fn entry_form(members: &[Json]) -> Option<Form> {
-    Form::of_entry(members.len())
+fn entry_form(members: &[Json]) -> Option<ArrayForm> {
+    ArrayForm::of_entry(members.len())
 }
 
 fn look_entry(alloc: Global, members: &[Json]) -> Looked {
@@ -85,9 +85,9 @@ fn look_entry(alloc: Global, members: &[Json]) -> Looked {
         return look_members(alloc, form, members);
     }
     let expected = match members.get(ENTRY_WORD).and_then(Json::as_str) {
-        Some("read") => Expected::Members(Form::Served),
-        Some("write") => Expected::Members(Form::Accepted),
-        Some("refused") => Expected::Members(Form::Refused),
+        Some("read") => Expected::Members(ArrayForm::Served),
+        Some("write") => Expected::Members(ArrayForm::Accepted),
+        Some("refused") => Expected::Members(ArrayForm::Refused),
         _ => Expected::EntryMembers,
     };
     miscounted(alloc, members, expected)
@@ -111,14 +111,14 @@ fn look_unheaded(alloc: Global, json: &Json) -> Looked {
 }
 
 /// Looks at the JSON of a line of a text of this kind: what is wrong first, if anything is.
-pub(crate) fn look_line(alloc: Global, kind: Kind, json: &Json) -> Looked {
+pub(crate) fn look_line(alloc: Global, kind: TextKind, json: &Json) -> Looked {
     let Some((word, members)) = headed(json) else {
         return look_unheaded(alloc, json);
     };
     if word == "entry" {
         return look_entry(alloc, members);
     }
-    match Form::of_line(word) {
+    match ArrayForm::of_line(word) {
         Some(form) => look_members(alloc, form, members),
         None => match members.first() {
             Some(first) => under(

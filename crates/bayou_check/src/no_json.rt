@@ -2,7 +2,7 @@
 use crate::expected::Expected;
 use crate::found::Found;
 use crate::meant::Meant;
-use crate::told::Span;
+use crate::told::TextSpan;
 use serde_json::Value as Json;
 use std::alloc::{AllocError, Global};
 use std::str;
@@ -12,7 +12,7 @@ use std::str;
 pub(crate) struct NoJson {
     pub found: Found,
     pub expected: Expected,
-    pub span: Span,
+    pub span: TextSpan,
     /// A line that it may be meant as.
     pub fix: Option<Meant>,
 }
@@ -24,7 +24,7 @@ fn no_json(found: Found, expected: Expected, start: usize, end: usize) -> NoJson
     NoJson {
         found,
         expected,
-        span: Span { start, end },
+        span: TextSpan { start, end },
         fix: None,
     }
 }

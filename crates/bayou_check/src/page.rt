@@ -1,11 +1,11 @@
 //! The pages that say more.
-use crate::forms::Form;
+use crate::forms::ArrayForm;
 use crate::parts::Part;
 use thiserror::Error;
 
 /// A page, and where on it.
 #[derive(Clone, Copy, Debug, PartialEq, Eq, Error)]
-pub enum Page {
+pub enum ManualPage {
     #[error("docs/FORMATS.md, \"Lines\"")]
     Lines,
     #[error("docs/FORMATS.md, \"Commands\"")]
@@ -20,31 +20,32 @@ pub enum Page {
     Asks,
 }
 
-impl Form {
+impl ArrayForm {
     /// The page that has this form.
-    pub(crate) fn page(self) -> Page {
+    pub(crate) fn page(self) -> ManualPage {
         match self {
-            Form::Refused | Form::Served | Form::Accepted | Form::Held => Page::AuditLines,
-            Form::Put
-            | Form::Del
-            | Form::Copy
-            | Form::Plus
-            | Form::Equals
-            | Form::Absent
-            | Form::AtLeast
-            | Form::AtMost => Page::Language,
-            _ => Page::Commands,
+            ArrayForm::Refused | ArrayForm::Served | ArrayForm::Accepted | ArrayForm::Held =>
+                ManualPage::AuditLines,
+            ArrayForm::Put
+            | ArrayForm::Del
+            | ArrayForm::Copy
+            | ArrayForm::Plus
+            | ArrayForm::Equals
+            | ArrayForm::Absent
+            | ArrayForm::AtLeast
+            | ArrayForm::AtMost => ManualPage::Language,
+            _ => ManualPage::Commands,
         }
     }
 }
 
 impl Part {
     /// The page that has this number.
-    pub(crate) fn page(self) -> Page {
+    pub(crate) fn page(self) -> ManualPage {
         match self {
-            Part::Place | Part::Seq | Part::Clock | Part::Tally => Page::AuditLines,
-            Part::Most | Part::Integer => Page::Language,
-            _ => Page::Commands,
+            Part::Place | Part::Seq | Part::Clock | Part::Tally => ManualPage::AuditLines,
+            Part::Most | Part::Integer => ManualPage::Language,
+            _ => ManualPage::Commands,
         }
     }
 }

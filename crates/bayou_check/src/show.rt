@@ -2,10 +2,10 @@
 ghost use Rattle.std.specs.Prelude.{◌≡◌, IfOk, string_bytes};
 ghost use Rattle.bayou_check.specs.Shown.{BeginsWith, HasWithin, head_text, outcome_text};
 
-use crate::kind::Kind;
+use crate::kind::TextKind;
 use crate::report::Report;
 use crate::text::plain;
-use crate::told::{Step, Told};
+use crate::told::{FaultyLine, Step};
 use std::alloc::{AllocError, Global};
 use std::fmt;
 
@@ -57,7 +57,7 @@ fn repeated(alloc: Global, character: char, count: usize) -> Result<String, Allo
 }
 
 // The line, and below it the mark.
-fn push_line(alloc: Global, text: &mut String, told: &Told) -> Result<(), AllocError> {
+fn push_line(alloc: Global, text: &mut String, told: &FaultyLine) -> Result<(), AllocError> {
     let number = told.line.to_string(alloc)?;
     let margin = repeated(alloc, ' ', number.len())?;
     let blanks = repeated(alloc, ' ', told.mark.start)?;
@@ -74,7 +74,7 @@ fn head(alloc: Global, number: u64) -> Result<String, AllocError>
 }
 
 /// What is reported of a line with a fault, in the file of this name.
-pub fn told_text(alloc: Global, file: &str, told: &Told) -> Result<String, AllocError>
+pub fn told_text(alloc: Global, file: &str, told: &FaultyLine) -> Result<String, AllocError>
     ensures { IfOk result (λ text. BeginsWith (head_text told.now.line) (string_bytes text)) }
 {
     let head = head(alloc, told.line)?;
@@ -83,7 +83,7 @@ pub fn told_text(alloc: Global, file: &str, told: &Told) -> Result<String, Alloc
 }
 
 // What is reported after its number.
-fn more_text(alloc: Global, file: &str, told: &Told) -> Result<String, AllocError> {
+fn more_text(alloc: Global, file: &str, told: &FaultyLine) -> Result<String, AllocError> {
     let file = plain(alloc, file)?;
     let place = place_text(alloc, told.path.as_slice())?;
     let (line, fault, column) = (told.line, told.fault, told.column);
@@ -114,14 +114,14 @@ fn counts_text(alloc: Global, report: &Report) -> Result<String, AllocError> {
     let lines = number_of(report.lines, "line", "lines");
     let servers = number_of(u64::from(counts.servers), "server", "servers");
     match report.kind {
-        Kind::Script => {
+        TextKind::Script => {
             let sessions = number_of(counts.sessions, "session", "sessions");
             let writes = number_of(counts.writes, "write", "writes");
             let reads = number_of(counts.reads, "read", "reads");
             let pulls = number_of(counts.pulls, "pull", "pulls");
             format!(in alloc; "{lines}: {servers}, {sessions}, {writes}, {reads}, {pulls}")
         }
-        Kind::Audit => {
+        TextKind::Audit => {
             let entries = number_of(counts.entries, "entry", "entries");
             let held = number_of(counts.held, "held Write", "held Writes");
             format!(in alloc; "{lines}: {servers}, {entries}, {held}")

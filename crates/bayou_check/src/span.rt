@@ -1,5 +1,5 @@
 //! Where a member stands in the bytes of a line that is JSON.
-use crate::told::{Span, Step};
+use crate::told::{Step, TextSpan};
 
 fn is_blank(byte: u8) -> bool {
     matches!(byte, b' ' | b'\t' | b'\r')
@@ -114,7 +114,7 @@ fn step_from(text: &[u8], from: usize, step: &Step) -> Option<usize> {
 
 /// Where the member stands to which these steps lead, the last one first, in a line that is JSON. Where that isn't found it is where the member
 /// stands to which the first of them lead that are.
-pub(crate) fn span_of(text: &[u8], path: &[Step]) -> Span {
+pub(crate) fn span_of(text: &[u8], path: &[Step]) -> TextSpan {
     let mut start = behind_blanks(text, 0);
     for step in path.iter().rev() {
         match step_from(text, start, step) {
@@ -122,7 +122,7 @@ pub(crate) fn span_of(text: &[u8], path: &[Step]) -> Span {
             None => break,
         }
     }
-    Span {
+    TextSpan {
         start,
         end: behind_value(text, start),
     }

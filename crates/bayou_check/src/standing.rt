@@ -1,7 +1,7 @@
 //! Where a line stands in its text: what the lines before it started and opened.
 use crate::expected::Expected;
 use crate::found::Found;
-use crate::kind::Kind;
+use crate::kind::TextKind;
 use crate::told::{Mistake, Step};
 use bayou_base::{Entry, MAX_ENTRIES, MAX_LINES, SERVERS, SESSIONS, ServerId, SessionId};
 use bayou_script::ScriptFault;
@@ -19,7 +19,7 @@ struct Started {
 
 /// How many lines say what.
 #[derive(Clone, Copy, Debug, Default, PartialEq, Eq)]
-pub struct Counts {
+pub struct LineCounts {
     /// How many servers are started.
     pub servers: u8,
     pub sessions: u64,
@@ -34,13 +34,13 @@ pub struct Counts {
 
 /// What the lines said so far.
 #[derive(Drop)]
-pub(crate) struct Standing {
+pub(crate) struct LinesStanding {
     started: Option<Started>,
     /// The line that opened each session; 0 where none did.
     opened: [u64; SESSIONS],
     /// The first line that opens each session, wherever it stands; 0 where none does.
     opens: [u64; SESSIONS],
-    pub counts: Counts,
+    pub counts: LineCounts,
 }
 
 /// A line that has no place: what was found, what is expected, and which member it is.
@@ -67,14 +67,14 @@ fn of_line(found: Found, expected: Expected) -> Option<Misplaced> {
     })
 }
 
-impl Standing {
+impl LinesStanding {
     /// Nothing was said; the sessions are opened by these lines, where they are.
-    pub(crate) fn new(opens: [u64; SESSIONS]) -> Standing {
-        Standing {
+    pub(crate) fn new(opens: [u64; SESSIONS]) -> LinesStanding {
+        LinesStanding {
             started: None,
             opened: [0; SESSIONS],
             opens,
-            counts: Counts::default(),
+            counts: LineCounts::default(),
         }
     }
 
@@ -234,14 +234,14 @@ impl Standing {
     }
 
     // Why the line of this number has no place in a text of this kind, if it hasn't.
-    fn misplaced(&self, kind: Kind, number: u64, line: &Line) -> Option<Misplaced> {
-        if kind == Kind::Script && number > MAX_LINES {
+    fn misplaced(&self, kind: TextKind, number: u64, line: &Line) -> Option<Misplaced> {
+        if kind == TextKind::Script && number > MAX_LINES {
             return of_line(Found::OneMore, Expected::FewLines);
         }
         let Some(started) = self.started else {
             return match line {
                 Line::Servers { .. } => None,
-                Line::Audit(_) if kind == Kind::Script => {
+                Line::Audit(_) if kind == TextKind::Script => {
                     of_line(Found::AuditLine, Expected::OnlyScript)
                 }
                 _ => of_line(Found::BeforeServers, Expected::ServersFirst),
@@ -252,10 +252,10 @@ impl Standing {
             (Line::Servers { .. }, _) => {
                 of_line(Found::ServersAgain(started.line), Expected::ServersOnce)
             }
-            (Line::Command(command), Kind::Script) => self.misplaced_command(started, command),
-            (Line::Audit(told), Kind::Audit) => self.misplaced_told(started, told),
-            (Line::Command(_), Kind::Audit) => of_line(Found::ScriptLine, Expected::OnlyAudit),
-            (Line::Audit(_), Kind::Script) => of_line(Found::AuditLine, Expected::OnlyScript),
+            (Line::Command(command), TextKind::Script) => self.misplaced_command(started, command),
+            (Line::Audit(told), TextKind::Audit) => self.misplaced_told(started, told),
+            (Line::Command(_), TextKind::Audit) => of_line(Found::ScriptLine, Expected::OnlyAudit),
+            (Line::Audit(_), TextKind::Script) => of_line(Found::AuditLine, Expected::OnlyScript),
         }
     }
 
@@ -263,7 +263,7 @@ impl Standing {
     pub(crate) fn look(
         &self,
         alloc: Global,
-        kind: Kind,
+        kind: TextKind,
         number: u64,
         line: &Line,
     ) -> Result<Option<Mistake>, AllocError> {

@@ -7,7 +7,7 @@ use crate::meant::Meant;
 use crate::no_json::{NoJson, look_no_json};
 use crate::span::span_of;
 use crate::text::{characters, legible};
-use crate::told::{Mistake, Span, Step, Told};
+use crate::told::{FaultyLine, Mistake, Step, TextSpan};
 use bayou_base::MAX_LINE_BYTES;
 use bayou_script::ScriptFault;
 use std::alloc::{AllocError, Global};
@@ -37,7 +37,7 @@ pub(crate) struct Faulty<'a> {
 #[derive(Drop)]
 struct Finding {
     path: Vec<Step>,
-    span: Span,
+    span: TextSpan,
     found: Found,
     expected: Expected,
     nearest: Option<&'static str>,
@@ -48,7 +48,7 @@ struct Finding {
 #[derive(Drop)]
 struct Window {
     text: String,
-    mark: Span,
+    mark: TextSpan,
     column: usize,
 }
 
@@ -56,7 +56,7 @@ struct Window {
 fn mended(
     alloc: Global,
     bytes: &[u8],
-    span: Span,
+    span: TextSpan,
     instead: Option<&str>,
 ) -> Result<Option<Meant>, AllocError> {
     let (Some(instead), Ok(text)) = (instead, str::from_utf8(bytes)) else {
@@ -100,7 +100,7 @@ fn of_mistake(alloc: Global, bytes: &[u8], mistake: Mistake) -> Result<Finding, 
 fn of_whole(alloc: Global, bytes: &[u8], found: Found, expected: Expected) -> Finding {
     Finding {
         path: Vec::new(alloc),
-        span: Span {
+        span: TextSpan {
             start: 0,
             end: bytes.len(),
         },
@@ -162,7 +162,7 @@ fn finding_of(
 }
 
 // The part of a line that is shown around what is marked.
-fn shown_part(alloc: Global, bytes: &[u8], span: Span) -> Result<Window, AllocError> {
+fn shown_part(alloc: Global, bytes: &[u8], span: TextSpan) -> Result<Window, AllocError> {
     let is_text = str::from_utf8(bytes).is_ok();
     let front = bytes.get(..span.start).unwrap_or(bytes);
     let marked = bytes.get(span.start..span.end).unwrap_or(b"");
@@ -192,7 +192,7 @@ fn shown_part(alloc: Global, bytes: &[u8], span: Span) -> Result<Window, AllocEr
         .max(1);
     Ok(Window {
         text,
-        mark: Span {
+        mark: TextSpan {
             start,
             end: start.saturating_add(width.min(most)),
         },
@@ -205,12 +205,12 @@ pub(crate) fn tell(
     alloc: Global,
     faulty: Faulty<'_>,
     mistake: Option<Mistake>,
-) -> Result<Told, AllocError>
+) -> Result<FaultyLine, AllocError>
     ensures { IfOk result (λ told. (told.line ≡ faulty.entry.number) × (told.fault ≡ faulty.entry.fault)) }
 {
     let finding = finding_of(alloc, faulty, mistake)?;
     let window = shown_part(alloc, faulty.bytes, finding.span)?;
-    Ok(Told {
+    Ok(FaultyLine {
         line: faulty.number,
         fault: faulty.fault,
         text: window.text,

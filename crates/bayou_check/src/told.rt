@@ -32,21 +32,21 @@ pub struct Mistake {
 
 /// Where something stands in a text, from 0 on: from its first byte or character to after its last.
 #[derive(Clone, Copy, Debug, PartialEq, Eq)]
-pub struct Span {
+pub struct TextSpan {
     pub start: usize,
     pub end: usize,
 }
 
 /// A line with a fault.
 #[derive(Debug, Drop)]
-pub struct Told {
+pub struct FaultyLine {
     /// The number of the line, from 1 on.
     pub line: u64,
     pub fault: ScriptFault,
     /// The line itself, as far as it is shown.
     pub text: String,
     /// Which characters of `text` are at fault.
-    pub mark: Span,
+    pub mark: TextSpan,
     /// In which character of the whole line that is, from 1 on.
     pub column: usize,
     /// The steps to the member, the first one first.

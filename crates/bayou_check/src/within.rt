@@ -1,6 +1,6 @@
 //! The arrays within a program, and programs.
 use crate::expected::Expected;
-use crate::forms::Form;
+use crate::forms::ArrayForm;
 use crate::found::Found;
 use crate::leaf::{look_plain, look_value, misshapen, unknown};
 use crate::nearest::nearest;
@@ -40,13 +40,13 @@ pub(crate) fn miscounted(alloc: Global, members: &[Json], expected: Expected) ->
 }
 
 /// Whether an array of this form has so many members, its word among them.
-pub(crate) fn fits(form: Form, members: usize) -> bool {
+pub(crate) fn fits(form: ArrayForm, members: usize) -> bool {
     let most = form.parts().len().saturating_add(1);
     members <= most && members.saturating_add(form.optional()) >= most
 }
 
 // The members of an array that are no arrays of a program.
-fn look_members(alloc: Global, form: Form, members: &[Json]) -> Looked {
+fn look_members(alloc: Global, form: ArrayForm, members: &[Json]) -> Looked {
     if !fits(form, members.len()) {
         return miscounted(alloc, members, Expected::Members(form));
     }
@@ -65,7 +65,7 @@ fn look_members(alloc: Global, form: Form, members: &[Json]) -> Looked {
 }
 
 // The members of a term, all of which are plain.
-fn look_plain_members(alloc: Global, form: Form, members: &[Json]) -> Looked {
+fn look_plain_members(alloc: Global, form: ArrayForm, members: &[Json]) -> Looked {
     if !fits(form, members.len()) {
         return miscounted(alloc, members, Expected::Members(form));
     }
@@ -85,7 +85,7 @@ fn look_term(alloc: Global, json: &Json) -> Looked {
     let Some((word, members)) = headed(json) else {
         return misshapen(alloc, json, Expected::Term);
     };
-    match Form::of_term(word) {
+    match ArrayForm::of_term(word) {
         Some(form) => look_plain_members(alloc, form, members),
         None => look_word(alloc, members, &TERMS, Expected::TermWord),
     }
@@ -108,7 +108,7 @@ fn look_op(alloc: Global, json: &Json) -> Looked {
     let Some((word, members)) = headed(json) else {
         return misshapen(alloc, json, Expected::Op);
     };
-    match Form::of_op(word) {
+    match ArrayForm::of_op(word) {
         Some(form) => look_members(alloc, form, members),
         None => look_word(alloc, members, &OPS, Expected::OpWord),
     }
@@ -118,7 +118,7 @@ fn look_condition(alloc: Global, json: &Json) -> Looked {
     let Some((word, members)) = headed(json) else {
         return misshapen(alloc, json, Expected::Condition);
     };
-    match Form::of_condition(word) {
+    match ArrayForm::of_condition(word) {
         Some(form) => look_members(alloc, form, members),
         None => look_word(alloc, members, &CONDITIONS, Expected::ConditionWord),
     }

@@ -9,7 +9,7 @@ use Rattle.bayou_base.specs.declared.value.Value.{Value}
 use Rattle.bayou_connect.specs.Claiming.{LookFree, LooksFree, TellsKey, TellsKeys}
 use Rattle.bayou_connect.specs.Listing.{PrintsRows, Row, row_told, standing_told}
 use Rattle.bayou_connect.specs.Wishing.{GetsKey, GetsKeys}
-use Rattle.bayou_connect.specs.declared.desk.Desk.{Desk}
+use Rattle.bayou_connect.specs.declared.desk.PersonDesk.{PersonDesk}
 use Rattle.bayou_connect.specs.declared.looking.Beyond.{Beyond}
 use Rattle.bayou_connect.specs.Sessions.{own_session}
 use Rattle.bayou_streams.specs.Account.{Account, TakesBytes}
@@ -25,39 +25,39 @@ own_is within = ap (λ (h : 0 < SESSIONS). own_of h) (le_prop within own_session
 pub next_of : {A : Type 0} (items : List A) (at : ℕ) (d : A) → at < length items → drop at items ≡ get_or items at d ∷ drop (at + 1) items
 next_of {A} items at d within = drop-cons items at d within ∙ ap (λ (n : ℕ). get_or items at d ∷ drop n items) (sym (add-one at))
 
-pub look_none : (who : SessionId) (value : Value) (desk : Desk) (account : Account) → LookFree who value [] desk desk account account true
+pub look_none : (who : SessionId) (value : Value) (desk : PersonDesk) (account : Account) → LookFree who value [] desk desk account account true
 unfolding LookFree
 look_none who value desk account = (refl, refl, refl)
 
-pub look_on : (who : SessionId) (value : Value) (key : List ℕ) (keys : List (List ℕ)) (old looked new : Desk) (before line after : Account) (are_free : Bool)
+pub look_on : (who : SessionId) (value : Value) (key : List ℕ) (keys : List (List ℕ)) (old looked new : PersonDesk) (before line after : Account) (are_free : Bool)
     → LooksFree who value key old looked before line true → LookFree who value keys looked new line after are_free → LookFree who value (key ∷ keys) old new before after are_free
 unfolding LookFree
 look_on who value key keys old looked new before line after are_free one rest = (true, looked, line, one, rest)
 
-pub look_ends : (who : SessionId) (value : Value) (key : List ℕ) (keys : List (List ℕ)) (old new : Desk) (before after : Account)
+pub look_ends : (who : SessionId) (value : Value) (key : List ℕ) (keys : List (List ℕ)) (old new : PersonDesk) (before after : Account)
     → LooksFree who value key old new before after false → LookFree who value (key ∷ keys) old new before after false
 unfolding LookFree
 look_ends who value key keys old new before after one = (false, new, after, one, (refl, refl, refl))
 
-pub tells_none : (who : SessionId) (value : Value) (at : ℕ) (desk : Desk) (account : Account) → TellsKeys who value at [] desk desk account account true
+pub tells_none : (who : SessionId) (value : Value) (at : ℕ) (desk : PersonDesk) (account : Account) → TellsKeys who value at [] desk desk account account true
 unfolding TellsKeys
 tells_none who value at desk account = (refl, refl, refl)
 
-pub tells_on : (who : SessionId) (value : Value) (at : ℕ) (key : List ℕ) (keys : List (List ℕ)) (old told new : Desk) (before line after : Account) (are_other : Bool)
+pub tells_on : (who : SessionId) (value : Value) (at : ℕ) (key : List ℕ) (keys : List (List ℕ)) (old told new : PersonDesk) (before line after : Account) (are_other : Bool)
     → TellsKey who value at key old told before line true → TellsKeys who value at keys told new line after are_other → TellsKeys who value at (key ∷ keys) old new before after are_other
 unfolding TellsKeys
 tells_on who value at key keys old told new before line after are_other one rest = (true, told, line, one, rest)
 
-pub tells_end : (who : SessionId) (value : Value) (at : ℕ) (key : List ℕ) (keys : List (List ℕ)) (old new : Desk) (before after : Account)
+pub tells_end : (who : SessionId) (value : Value) (at : ℕ) (key : List ℕ) (keys : List (List ℕ)) (old new : PersonDesk) (before after : Account)
     → TellsKey who value at key old new before after false → TellsKeys who value at (key ∷ keys) old new before after false
 unfolding TellsKeys
 tells_end who value at key keys old new before after one = (false, new, after, one, (refl, refl, refl))
 
-pub gets_none : (desk : Desk) (account : Account) → GetsKeys [] desk desk account account
+pub gets_none : (desk : PersonDesk) (account : Account) → GetsKeys [] desk desk account account
 unfolding GetsKeys
 gets_none desk account = (refl, refl)
 
-pub gets_on : (key : List ℕ) (keys : List (List ℕ)) (old got new : Desk) (before line after : Account) → GetsKey key old got before line → GetsKeys keys got new line after
+pub gets_on : (key : List ℕ) (keys : List (List ℕ)) (old got new : PersonDesk) (before line after : Account) → GetsKey key old got before line → GetsKeys keys got new line after
     → GetsKeys (key ∷ keys) old new before after
 unfolding GetsKeys
 gets_on key keys old got new before line after one rest = (got, line, one, rest)

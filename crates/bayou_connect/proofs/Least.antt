@@ -3,13 +3,13 @@ use Rattle.std.proofs.Common.{arith, ◌≡◌, ℕ, ◌+◌, ◌<◌, All, List
 use Rattle.std.proofs.lemmas.List.{get_or-take, length-take, take-take}
 use Rattle.std.proofs.lemmas.List.Elements.{All-head, All-more, All-take, All-weaker}
 use Rattle.bayou_connect.specs.Plans.{IsLeast}
-use Rattle.bayou_connect.specs.declared.plan.Place.{Place}
+use Rattle.bayou_connect.specs.declared.plan.ServerPlace.{ServerPlace}
 
-abbrev IsBelow : ℕ → Place → Type 0
+abbrev IsBelow : ℕ → ServerPlace → Type 0
 IsBelow count place = place.id.index < count
 
 -- one server more
-pub least_more : (least new at : ℕ) (places : List Place) (d : Place) → at < length places → IsLeast least (take at places) → new ≡ max least ((get_or places at d).id.index + 1)
+pub least_more : (least new at : ℕ) (places : List ServerPlace) (d : ServerPlace) → at < length places → IsLeast least (take at places) → new ≡ max least ((get_or places at d).id.index + 1)
     → IsLeast new (take (at + 1) places)
 least_more least new at places d within so_far is = record {
   enough = All-more (IsBelow new) places at d within
@@ -22,6 +22,6 @@ least_more least new at places d within so_far is = record {
 }
 
 -- where there is a server below a number, that is above 0
-pub some_below : (count : ℕ) (places : List Place) → 0 < length places → All (IsBelow count) places → 0 < count
+pub some_below : (count : ℕ) (places : List ServerPlace) → 0 < length places → All (IsBelow count) places → 0 < count
 some_below count [] some all = absurd (omega (arith, some))
 some_below count (place ∷ places) some all = omega (arith, All-head (IsBelow count) place places all)

@@ -9,7 +9,7 @@ use Rattle.std.specs.Global.{Vec}
 use Rattle.std.proofs.lemmas.List.Folds.{prefix_len-append}
 use Rattle.bayou_base.specs.declared.limits.TheConstants.{MAX_LINE_BYTES}
 use Rattle.bayou_connect.specs.Reader.{GivesPart, PutsLine, TakesLine, is_line_feed}
-use Rattle.bayou_connect.specs.declared.lines.Next.TheVariants.{Line, TooLong, End}
+use Rattle.bayou_connect.specs.declared.lines.NextLine.TheVariants.{Line, TooLong, End}
 
 -- none of the bytes is a line feed
 abbrev pub HasNone : List ℕ → Type 0

@@ -6,23 +6,23 @@ use Rattle.bayou_connect.specs.Keeping.{HasAsked}
 use Rattle.bayou_connect.specs.Operating.{is_read}
 use Rattle.bayou_connect.specs.Round.{AsksInRounds, turns_but_last}
 use Rattle.bayou_connect.specs.Silence.{silent_at}
-use Rattle.bayou_connect.specs.declared.asking.Attempt.{Attempt}
+use Rattle.bayou_connect.specs.declared.asking.Requested.{Requested}
 use Rattle.bayou_connect.specs.declared.store.Store.{Store}
-use Rattle.bayou_connect.specs.declared.told.Told.{Told}
-use Rattle.bayou_connect.specs.declared.told.Told.TheVariants.{Away}
+use Rattle.bayou_connect.specs.declared.told.ServerTold.{ServerTold}
+use Rattle.bayou_connect.specs.declared.told.ServerTold.TheVariants.{Away}
 
 -- the session did this at the server of that place
-abbrev pub AsksAt : SessionId → Attempt → Store → (at : ℕ) → Store → Told → Type 0
+abbrev pub AsksAt : SessionId → Requested → Store → (at : ℕ) → Store → ServerTold → Type 0
 AsksAt who attempt old at new told = HasAsked old.accesses.items at attempt old.sessions.items new.sessions.items new.state who.index told
 
 -- at the server of this number, which has a place
-abbrev pub AsksServer : SessionId → ServerId → Attempt → (old new : Store) → Told → Type 0
+abbrev pub AsksServer : SessionId → ServerId → Requested → (old new : Store) → ServerTold → Type 0
 AsksServer who server attempt old new told =
     (at : ℕ) × IsSomeAnd (slice_get old.accesses.items at) (λ access. access.place.id ≡ server) × AsksAt who attempt old at new told
 
 -- at all servers in turn, from that place on, those last that count as silent as it begins, and round again so often; where there is no such place, none is
 -- asked
-abbrev pub AsksAnywhere : SessionId → Attempt → (first rounds : ℕ) → (old new : Store) → Told → Type 0
+abbrev pub AsksAnywhere : SessionId → Requested → (first rounds : ℕ) → (old new : Store) → ServerTold → Type 0
 AsksAnywhere who attempt first rounds old new told =
     ((vec_len old.accesses ≤ first) × (new ≡ old) × (told ≡ Away))
     ⊎ ((now : ℕ) × AsksInRounds (AsksAt who attempt) (is_read attempt) (turns_but_last (silent_at now old.accesses.items) first (vec_len old.accesses)) rounds old new told)

@@ -1,10 +1,10 @@
 -- What stays of a desk: this project's own.
 use Rattle.std.specs.Prelude.{◌≡◌}
 use Rattle.bayou_connect.specs.Viewing.{IsSameStore}
-use Rattle.bayou_connect.specs.declared.desk.Desk.{Desk}
+use Rattle.bayou_connect.specs.declared.desk.PersonDesk.{PersonDesk}
 
 -- the plan, the sessions that lines opened, and the server that is asked first stay
-pub record IsSameSeat (old new : Desk) : Type 0 where
+pub record IsSameSeat (old new : PersonDesk) : Type 0 where
   pub servers : new.servers ≡ old.servers
   pub json : new.is_json ≡ old.is_json
   pub run : new.run ≡ old.run
@@ -14,6 +14,6 @@ pub record IsSameSeat (old new : Desk) : Type 0 where
   pub opened : new.opened ≡ old.opened
 
 -- so do the sessions, and what is kept of them
-pub record IsSameDesk (old new : Desk) : Type 0 where
+pub record IsSameDesk (old new : PersonDesk) : Type 0 where
   pub seat : IsSameSeat old new
   pub store : IsSameStore old.store new.store

@@ -2,8 +2,8 @@
 use Rattle.std.specs.Prelude.{◌≡◌, ◌⊎◌, Bool, true, false, if◌then◌else◌, List, Option, None, Some, ℕ}
 use Rattle.bayou_connect.specs.declared.fault.ConnectFault.{ConnectFault}
 use Rattle.bayou_connect.specs.declared.fault.ConnectFault.TheVariants.{Input, LinesNotOpened, Output, Memory, StateNotOpened, NotAState, StateDamaged, State, OtherStore, NotALabel, Views, BookNotOpened, Book}
-use Rattle.bayou_connect.specs.declared.lines.LineFault.{LineFault}
-use Rattle.bayou_connect.specs.declared.lines.LineFault.TheVariants as lines
+use Rattle.bayou_connect.specs.declared.lines.InputFault.{InputFault}
+use Rattle.bayou_connect.specs.declared.lines.InputFault.TheVariants as lines
 use Rattle.bayou_journal.specs.declared.careful.Damage.{Damage}
 use Rattle.bayou_journal.specs.declared.fault.OpenFault.TheVariants as opening
 use Rattle.bayou_key_file.specs.declared.fault.LabelFault.{LabelFault}
@@ -52,7 +52,7 @@ labelled_as labels.NotALabel = NotALabel
 labelled_as labels.OutOfMemory = Memory
 
 -- so is why no line came
-abbrev pub unread_as : LineFault → ConnectFault
+abbrev pub unread_as : InputFault → ConnectFault
 unread_as lines.Input = Input
 unread_as lines.OutOfMemory = Memory
 

@@ -10,8 +10,8 @@ use Rattle.bayou_connect.specs.Beyond.{AreKeysOf}
 use Rattle.bayou_connect.specs.declared.looking.Beyond.{Beyond}
 use Rattle.bayou_base.specs.declared.limits.TheConstants.{MAX_BEYOND_FINAL, MAX_OWN_WRITES}
 use Rattle.bayou_connect.specs.declared.views_file.ViewsFile.{ViewsFile}
-use Rattle.bayou_connect.specs.declared.told.Told.{Told}
-use Rattle.bayou_connect.specs.declared.told.Told.TheVariants as told
+use Rattle.bayou_connect.specs.declared.told.ServerTold.{ServerTold}
+use Rattle.bayou_connect.specs.declared.told.ServerTold.TheVariants as told
 use Rattle.bayou_final.specs.declared.standing.Standing.{Standing}
 use Rattle.bayou_final.specs.declared.standing.Standing.TheVariants.{Tentative, Final, Changed}
 use Rattle.bayou_final.specs.Known.{AreRising}
@@ -25,7 +25,7 @@ use Rattle.bayou_wire.specs.declared.lookup.Became.{Became}
 use Rattle.bayou_wire.specs.declared.lookup.Became.TheVariants.{Updated, Merged, Nothing}
 
 -- what a server held, by what it told of an operation, if it told that
-abbrev pub view_told : Told → Option (List ℕ)
+abbrev pub view_told : ServerTold → Option (List ℕ)
 view_told (told.Seen seen) = Some seen.vector
 view_told (told.Rows page) = Some page.vector
 view_told (told.Fate fate) = Some fate.vector
@@ -43,7 +43,7 @@ view_told told.Away = None
 view_told told.Lost = None
 
 -- what a server held that answered a read of a key
-abbrev pub vector_read : Told → Option (List ℕ)
+abbrev pub vector_read : ServerTold → Option (List ℕ)
 vector_read (told.Seen seen) = Some seen.vector
 vector_read (told.Rows page) = None
 vector_read (told.Fate fate) = None
@@ -53,7 +53,7 @@ vector_read told.Away = None
 vector_read told.Lost = None
 
 -- a Write was refused, since a log is full
-abbrev pub is_refused_as_full : Told → Bool
+abbrev pub is_refused_as_full : ServerTold → Bool
 is_refused_as_full (told.Refused refusals.LogFull) = true
 is_refused_as_full (told.Refused (refusals.Behind vector)) = false
 is_refused_as_full (told.Refused refusals.Down) = false

@@ -1,4 +1,4 @@
--- Rows of a database, as a list of them is printed: this project's own.
+-- ListedRows of a database, as a list of them is printed: this project's own.
 use Rattle.std.specs.Prelude.{◌≡◌, ◌⊎◌, ◌∷◌, ◌-◌, [], ◌&&◌, ℕ, Bool, false, true, if◌then◌else◌, List, Option, None, Some, length, nat_eq, slice_get}
 use Rattle.std.specs.Cmp.Lexicographic.{slice_cmp}
 use Rattle.std.specs.List.{starts_with}
@@ -13,9 +13,9 @@ use Rattle.bayou_base.specs.declared.session.SessionId.{SessionId}
 use Rattle.bayou_connect.specs.Finals.{keeps_finals, outlook_of}
 use Rattle.bayou_connect.specs.Objects.{lost_json, refused_json, row_json, rows_json}
 use Rattle.bayou_connect.specs.Printing.{told_text}
-use Rattle.bayou_connect.specs.declared.desk.Desk.{Desk}
-use Rattle.bayou_connect.specs.declared.listing.Rows.{Rows}
-use Rattle.bayou_connect.specs.declared.told.Told.TheVariants.{Refused}
+use Rattle.bayou_connect.specs.declared.desk.PersonDesk.{PersonDesk}
+use Rattle.bayou_connect.specs.declared.listing.ListedRows.{ListedRows}
+use Rattle.bayou_connect.specs.declared.told.ServerTold.TheVariants.{Refused}
 use Rattle.bayou_print.specs.Connected.{row_text, rows_text}
 use Rattle.bayou_print.specs.declared.connected.TheConstants.{LIST_LOST}
 use Rattle.bayou_print.specs.Standing.{standing_row_text}
@@ -77,7 +77,7 @@ PrintsRows is_json keeps_finals beyond (row ∷ rows) before after =
     × PrintsRows is_json keeps_finals beyond rows line after
 
 -- and after them how many there are, and what was held by the server that told them
-pub record PrintsList (is_json keeps_finals : Bool) (servers : ℕ) (named : Option (List ℕ)) (beyond : Option Beyond) (rows : Rows) (before after : Account) : Type 0 where
+pub record PrintsList (is_json keeps_finals : Bool) (servers : ℕ) (named : Option (List ℕ)) (beyond : Option Beyond) (rows : ListedRows) (before after : Account) : Type 0 where
   pub line : Account
   pub each : PrintsRows is_json keeps_finals beyond rows.each.items before line
   pub last : TakesBytes line after (rows_told is_json named (length rows.each.items) rows.is_mixed servers rows.vector)
@@ -88,9 +88,9 @@ prefix_named None = []
 prefix_named (Some prefix) = prefix
 
 -- The rows whose keys begin so are printed, each key once and in order; or why they didn't come, or that they didn't.
-abbrev pub Lists : SessionId → (named : Option (List ℕ)) → (old new : Desk) → (before after : Account) → Type 0
+abbrev pub Lists : SessionId → (named : Option (List ℕ)) → (old new : PersonDesk) → (before after : Account) → Type 0
 Lists who named old new before after =
-    ((rows : Rows) × (beyond : Option Beyond) × AreListed (prefix_named named) rows.each.items × (new.is_served ≡ old.is_served)
+    ((rows : ListedRows) × (beyond : Option Beyond) × AreListed (prefix_named named) rows.each.items × (new.is_served ≡ old.is_served)
     × PrintsList old.is_json (keeps_finals (outlook_of new.store.views)) old.servers named beyond rows before after)
     ⊎ ((refusal : Refusal) × (new.is_served ≡ false) × TakesBytes before after (refused_told old.is_json old.servers who refusal))
     ⊎ ((new.is_served ≡ false) × TakesBytes before after (lost_told old.is_json))

@@ -9,17 +9,17 @@ use Rattle.bayou_client.specs.declared.asker.Asked.{Asked}
 use Rattle.bayou_client.specs.declared.fault.LinkFault.{LinkFault}
 use Rattle.bayou_client.specs.declared.fault.LinkFault.TheVariants.{Refused}
 use Rattle.bayou_client.specs.Operating.{Asking, asks_at, asks_once_more, begins_read, told_accepted, told_seen}
-use Rattle.bayou_connect.specs.declared.asking.Attempt.{Attempt}
-use Rattle.bayou_connect.specs.declared.asking.Attempt.TheVariants as attempts
+use Rattle.bayou_connect.specs.declared.asking.Requested.{Requested}
+use Rattle.bayou_connect.specs.declared.asking.Requested.TheVariants as attempts
 use Rattle.bayou_connect.specs.declared.reach.Purpose.{Purpose}
 use Rattle.bayou_connect.specs.declared.reach.Purpose.TheVariants.{Requests, Lookups}
-use Rattle.bayou_connect.specs.declared.told.Told.{Told}
-use Rattle.bayou_connect.specs.declared.told.Told.TheVariants as told
+use Rattle.bayou_connect.specs.declared.told.ServerTold.{ServerTold}
+use Rattle.bayou_connect.specs.declared.told.ServerTold.TheVariants as told
 use Rattle.bayou_wire.specs.declared.lookup.Fate.{Fate}
 use Rattle.bayou_wire.specs.declared.lookup.Page.{Page}
 
 -- it is a read, which changes nothing
-abbrev pub is_read : Attempt → Bool
+abbrev pub is_read : Requested → Bool
 is_read (attempts.Read key) = true
 is_read (attempts.List asked) = true
 is_read (attempts.Became wid) = true
@@ -27,7 +27,7 @@ is_read (attempts.Write program) = false
 is_read attempts.Again = false
 
 -- what is asked beside one key has a connection of its own
-abbrev pub purpose_of : Attempt → Purpose
+abbrev pub purpose_of : Requested → Purpose
 purpose_of (attempts.Read key) = Requests
 purpose_of (attempts.List asked) = Lookups
 purpose_of (attempts.Became wid) = Lookups
@@ -47,7 +47,7 @@ sent_again old None = old
 sent_again old (Some asked) = asks_once_more old
 
 -- what a session is after each answer: a read saw what the server held, and it learns of no other answer
-abbrev pub TellsRead : (sent new : Asking) → Told → Type 0
+abbrev pub TellsRead : (sent new : Asking) → ServerTold → Type 0
 TellsRead sent new told.Away = ⊥
 TellsRead sent new (told.Seen seen) = new ≡ told_seen sent seen
 TellsRead sent new (told.Rows page) = ⊥
@@ -57,7 +57,7 @@ TellsRead sent new (told.Refused fault) = new ≡ sent
 TellsRead sent new told.Lost = new ≡ sent
 
 -- so did rows
-abbrev pub TellsRows : (sent new : Asking) → Told → Type 0
+abbrev pub TellsRows : (sent new : Asking) → ServerTold → Type 0
 TellsRows sent new told.Away = ⊥
 TellsRows sent new (told.Seen seen) = ⊥
 TellsRows sent new (told.Rows page) = new ≡ told_rows sent page
@@ -67,7 +67,7 @@ TellsRows sent new (told.Refused fault) = new ≡ sent
 TellsRows sent new told.Lost = new ≡ sent
 
 -- and what became of a Write
-abbrev pub TellsFate : (sent new : Asking) → Told → Type 0
+abbrev pub TellsFate : (sent new : Asking) → ServerTold → Type 0
 TellsFate sent new told.Away = ⊥
 TellsFate sent new (told.Seen seen) = ⊥
 TellsFate sent new (told.Rows page) = ⊥
@@ -77,7 +77,7 @@ TellsFate sent new (told.Refused fault) = new ≡ sent
 TellsFate sent new told.Lost = new ≡ sent
 
 -- a Write that was accepted is asked no more
-abbrev pub TellsWrite : (sent new : Asking) → Told → Type 0
+abbrev pub TellsWrite : (sent new : Asking) → ServerTold → Type 0
 TellsWrite sent new told.Away = ⊥
 TellsWrite sent new (told.Seen seen) = ⊥
 TellsWrite sent new (told.Rows page) = ⊥
@@ -87,7 +87,7 @@ TellsWrite sent new (told.Refused fault) = new ≡ sent
 TellsWrite sent new told.Lost = new ≡ sent
 
 -- the same after what was attempted at this server: as it is sent one place more is begun, and a Write may be asked again from then on
-abbrev pub HasDone : Attempt → ServerId → (old new : Asking) → Told → Type 0
+abbrev pub HasDone : Requested → ServerId → (old new : Asking) → ServerTold → Type 0
 HasDone (attempts.Read key) server old new told = TellsRead (begins_read old) new told
 HasDone (attempts.List asked) server old new told = TellsRows (begins_read old) new told
 HasDone (attempts.Became wid) server old new told = TellsFate (begins_read old) new told
@@ -95,7 +95,7 @@ HasDone (attempts.Write program) server old new told = TellsWrite (asks_at old s
 HasDone attempts.Again server old new told = TellsWrite (sent_again old old.asked) new told
 
 -- no answer that serves it
-abbrev pub IsNoService : Told → Type 0
+abbrev pub IsNoService : ServerTold → Type 0
 IsNoService told.Away = ⊥
 IsNoService (told.Seen seen) = ⊥
 IsNoService (told.Rows page) = ⊥
@@ -105,7 +105,7 @@ IsNoService (told.Refused fault) = Unit {0}
 IsNoService told.Lost = Unit {0}
 
 -- a read was served, and saw another value than this, or none
-abbrev pub SeesOther : Value → Told → Type 0
+abbrev pub SeesOther : Value → ServerTold → Type 0
 SeesOther value told.Away = ⊥
 SeesOther value (told.Seen seen) = seen.value ≢ Some value
 SeesOther value (told.Rows page) = ⊥

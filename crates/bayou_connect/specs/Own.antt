@@ -5,7 +5,7 @@ use Rattle.bayou_base.specs.declared.limits.TheConstants.{MAX_OWN_WRITES}
 use Rattle.bayou_base.specs.declared.wid.Wid.{Wid}
 use Rattle.bayou_connect.specs.Finals.{HasForgotten, HasMade, HasTold, keeps_finals, own_in, told_as}
 use Rattle.bayou_connect.specs.Objects.{forgotten_json, own_json}
-use Rattle.bayou_connect.specs.declared.desk.Made.{Made}
+use Rattle.bayou_connect.specs.declared.desk.MadeWrite.{MadeWrite}
 use Rattle.bayou_connect.specs.declared.finals.Telling.{Telling}
 use Rattle.bayou_connect.specs.declared.finals.Telling.TheVariants as tellings
 use Rattle.bayou_final.specs.declared.standing.Standing.{Standing}
@@ -17,7 +17,7 @@ use Rattle.bayou_streams.specs.Account.{Account, TakesBytes}
 use Rattle.bayou_wire.specs.declared.lookup.Placed.{Placed}
 
 -- a Write that was accepted, as an own one, with what was reported of it
-abbrev pub own_write : Made → Option Placed → OwnWrite
+abbrev pub own_write : MadeWrite → Option Placed → OwnWrite
 own_write made placed = record { wid = made.wid; clock = made.clock; told = option_map (λ (one : Placed). one.became) placed }
 
 -- that one goes is reported

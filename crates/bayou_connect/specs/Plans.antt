@@ -4,9 +4,9 @@ use Rattle.std.specs.List.{after_first, before_first, list_all, list_any, positi
 use Rattle.std.specs.Net.Grammar.{IsSocketText}
 use Rattle.std.specs.Str.{bytes_eq}
 use Rattle.bayou_base.specs.declared.asks.Asks.{Asks}
-use Rattle.bayou_connect.specs.declared.plan.Place.{Place}
-use Rattle.bayou_connect.specs.declared.plan.PlanFault.{PlanFault}
-use Rattle.bayou_connect.specs.declared.plan.PlanFault.TheVariants as fault
+use Rattle.bayou_connect.specs.declared.plan.ServerPlace.{ServerPlace}
+use Rattle.bayou_connect.specs.declared.plan.SessionPlanFault.{SessionPlanFault}
+use Rattle.bayou_connect.specs.declared.plan.SessionPlanFault.TheVariants as fault
 use Rattle.bayou_person.specs.Wishes.{ReadsServer}
 
 -- the sign between a server's number and its address
@@ -14,15 +14,15 @@ abbrev pub is_equals_sign : ℕ → Bool
 is_equals_sign byte = byte == 61
 
 -- the word says the server and where it listens: I=ADDRESS:PORT
-pub record SaysPlace (word : List ℕ) (place : Place) : Type 0 where
+pub record SaysPlace (word : List ℕ) (place : ServerPlace) : Type 0 where
   pub split : position_or_len is_equals_sign word < length word
   pub number : ReadsServer (before_first is_equals_sign word) place.id
   pub listens : IsSocketText (after_first is_equals_sign word) place.address
 
 -- as many servers as the highest of these numbers needs, and no more
-pub record IsLeast (count : ℕ) (places : List Place) : Type 0 where
-  pub enough : All (λ (place : Place). place.id.index < count) places
-  pub least : (other : ℕ) → All (λ (place : Place). place.id.index < other) places → count ≤ other
+pub record IsLeast (count : ℕ) (places : List ServerPlace) : Type 0 where
+  pub enough : All (λ (place : ServerPlace). place.id.index < count) places
+  pub least : (other : ℕ) → All (λ (place : ServerPlace). place.id.index < other) places → count ≤ other
 
 -- ---- what a session asks for (the four guarantees by Terry et al. 1994)
 
@@ -82,14 +82,14 @@ Differ said kept = (one : Asks) × (other : Asks) × (said ≡ Some one) × (kep
 -- two of the words say the same server
 abbrev pub NameTwice : List (List ℕ) → Type 0
 NameTwice words =
-    (at : ℕ) × (later : ℕ) × (one : List ℕ) × (other : List ℕ) × (first : Place) × (second : Place) × (at < later)
+    (at : ℕ) × (later : ℕ) × (one : List ℕ) × (other : List ℕ) × (first : ServerPlace) × (second : ServerPlace) × (at < later)
     × (slice_get words at ≡ Some one) × (slice_get words later ≡ Some other) × SaysPlace one first × SaysPlace other second × (first.id ≡ second.id)
 
 -- What is wrong with the words, by the fault that is reported of them. Memory may run out.
-abbrev pub IsWrong : (servers : List (List ℕ)) → (count : Option ℕ) → (asks : Option (List ℕ)) → PlanFault → Type 0
-IsWrong servers count asks fault.NoServer = (servers ≡ []) ⊎ Any (λ (word : List ℕ). (place : Place) → ¬ SaysPlace word place) servers
+abbrev pub IsWrong : (servers : List (List ℕ)) → (count : Option ℕ) → (asks : Option (List ℕ)) → SessionPlanFault → Type 0
+IsWrong servers count asks fault.NoServer = (servers ≡ []) ⊎ Any (λ (word : List ℕ). (place : ServerPlace) → ¬ SaysPlace word place) servers
 IsWrong servers count asks fault.SameServer = NameTwice servers
 IsWrong servers count asks fault.TooFewServers =
-    IsSomeAnd count (λ number. Any (λ (word : List ℕ). (place : Place) × SaysPlace word place × (number ≤ place.id.index)) servers)
+    IsSomeAnd count (λ number. Any (λ (word : List ℕ). (place : ServerPlace) × SaysPlace word place × (number ≤ place.id.index)) servers)
 IsWrong servers count asks fault.NoAsks = IsSomeAnd asks (λ text. asks_said text ≡ None)
 IsWrong servers count asks fault.OutOfMemory = Unit {0}

@@ -4,8 +4,8 @@ use Rattle.bayou_answers.specs.declared.answer.Answer.TheVariants as answers
 use Rattle.bayou_base.specs.declared.asks.Asks.{Asks}
 use Rattle.bayou_base.specs.declared.session.SessionId.{SessionId}
 use Rattle.bayou_connect.specs.Plans.{asks_said}
-use Rattle.bayou_connect.specs.declared.told.Told.{Told}
-use Rattle.bayou_connect.specs.declared.told.Told.TheVariants as told
+use Rattle.bayou_connect.specs.declared.told.ServerTold.{ServerTold}
+use Rattle.bayou_connect.specs.declared.told.ServerTold.TheVariants as told
 use Rattle.bayou_print.specs.Connected.{away_text}
 use Rattle.bayou_base.specs.declared.wid.Wid.{Wid}
 use Rattle.bayou_wire.specs.declared.lookup.Became.{Became}
@@ -19,7 +19,7 @@ use Rattle.bayou_client.specs.declared.fault.LinkFault.{LinkFault}
 use Rattle.bayou_connect.specs.Operating.{recovery_told}
 
 -- the line of what an operation heard, with its key if it is a read
-abbrev pub told_text : (servers : ℕ) → SessionId → (key : Option (List ℕ)) → Told → List ℕ
+abbrev pub told_text : (servers : ℕ) → SessionId → (key : Option (List ℕ)) → ServerTold → List ℕ
 told_text servers who key told.Away = away_text who.index
 told_text servers who (Some key) (told.Seen seen) = last_text servers (answers.Read who key seen)
 told_text servers who None (told.Seen seen) = last_text servers (answers.Lost who)
@@ -30,7 +30,7 @@ told_text servers who key (told.Refused fault) = last_text servers (answers.Refu
 told_text servers who key told.Lost = last_text servers (answers.Lost who)
 
 -- it was served
-abbrev pub is_service : Told → Bool
+abbrev pub is_service : ServerTold → Bool
 is_service told.Away = false
 is_service (told.Seen seen) = true
 is_service (told.Rows page) = true

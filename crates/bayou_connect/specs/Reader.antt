@@ -1,18 +1,18 @@
--- Lines of an input, which is read piece by piece: this project's own.
+-- InputLines of an input, which is read piece by piece: this project's own.
 use Rattle.std.specs.Prelude.{◌≡◌, ◌<◌, ◌≤◌, ◌+◌, ◌==◌, ◌++◌, ◌∷◌, ℕ, Bool, List, [], if◌then◌else◌, MatchBool, Option, None, Some, length, slice_range, take}
 use Rattle.std.specs.List.{after_first, before_first, position_or_len}
 use Rattle.std.specs.Option.{option_map}
 use Rattle.bayou_base.specs.declared.limits.TheConstants.{MAX_LINE_BYTES}
-use Rattle.bayou_connect.specs.declared.lines.Lines.{Lines}
-use Rattle.bayou_connect.specs.declared.lines.Next.{Next}
-use Rattle.bayou_connect.specs.declared.lines.Next.TheVariants.{Line, TooLong, End}
+use Rattle.bayou_connect.specs.declared.lines.InputLines.{InputLines}
+use Rattle.bayou_connect.specs.declared.lines.NextLine.{NextLine}
+use Rattle.bayou_connect.specs.declared.lines.NextLine.TheVariants.{Line, TooLong, End}
 
 -- the bytes of the piece that aren't given yet
-abbrev pub rest_of : {R : Type 0} → Lines R → List ℕ
+abbrev pub rest_of : {R : Type 0} → InputLines R → List ℕ
 rest_of lines = slice_range lines.piece lines.from lines.to
 
 -- the bytes that are left of the input, where it is known what its reader has left: after its end nothing more is read
-abbrev pub left_in : {R : Type 0} → (R → Option (List ℕ)) → Lines R → Option (List ℕ)
+abbrev pub left_in : {R : Type 0} → (R → Option (List ℕ)) → InputLines R → Option (List ℕ)
 left_in remaining lines = option_map (λ (xs : List ℕ). rest_of lines ++ (if lines.has_ended then [] else xs)) (remaining lines.reader)
 
 abbrev pub is_line_feed : ℕ → Bool
@@ -34,7 +34,7 @@ PutsLine (Some bytes) (Some rest) line has_any = MatchBool has_any
     ((bytes ≡ []) × (rest ≡ []))
 
 -- The next line of the bytes that are left, and those after its line feed: all up to that, unless it is too long. Where no byte is left there is none.
-abbrev pub TakesLine : (old new : Option (List ℕ)) → Next → Type 0
+abbrev pub TakesLine : (old new : Option (List ℕ)) → NextLine → Type 0
 TakesLine None new next = Unit {0}
 TakesLine (Some bytes) None next = ⊥
 TakesLine (Some bytes) (Some rest) End = (bytes ≡ []) × (rest ≡ [])

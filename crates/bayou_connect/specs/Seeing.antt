@@ -1,7 +1,7 @@
 -- The rows of a store, as they are seen: this project's own.
 use Rattle.std.specs.Prelude.{◌≡◌, Bool, [], Option, map}
 use Rattle.bayou_connect.specs.Listing.{AreListed, Row, standing_told}
-use Rattle.bayou_connect.specs.declared.listing.Rows.{Rows}
+use Rattle.bayou_connect.specs.declared.listing.ListedRows.{ListedRows}
 use Rattle.bayou_connect.specs.declared.looking.Beyond.{Beyond}
 use Rattle.bayou_connect.specs.declared.seeing.SeenRow.{SeenRow}
 use Rattle.bayou_connect.specs.declared.seeing.SeenRows.{SeenRows}
@@ -10,9 +10,9 @@ use Rattle.bayou_connect.specs.declared.seeing.SeenRows.{SeenRows}
 abbrev pub seen_row : (keeps_finals : Bool) → Option Beyond → Row → SeenRow
 seen_row keeps_finals beyond row = record { key = row.0; value = row.1; standing = standing_told keeps_finals beyond row.0 }
 
--- Rows of a list of all keys, each with how its value stands, where that is kept.
+-- ListedRows of a list of all keys, each with how its value stands, where that is kept.
 pub record Sees (keeps_finals : Bool) (seen : SeenRows) : Type 0 where
-  pub rows : Rows
+  pub rows : ListedRows
   pub beyond : Option Beyond
   pub listed : AreListed [] rows.each.items
   pub each : seen.rows.items ≡ map (seen_row keeps_finals beyond) rows.each.items

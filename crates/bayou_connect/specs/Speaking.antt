@@ -10,12 +10,12 @@ use Rattle.bayou_connect.specs.Finals.{outlook_of, own_in}
 use Rattle.bayou_connect.specs.Own.{TellsAsLooked, telling_all}
 use Rattle.bayou_connect.specs.Sessions.{own_session}
 use Rattle.bayou_connect.specs.Wishing.{DoesWish}
-use Rattle.bayou_connect.specs.declared.desk.Desk.{Desk}
-use Rattle.bayou_connect.specs.declared.desk.Made.{Made}
-use Rattle.bayou_connect.specs.declared.doing.Became.{Became}
-use Rattle.bayou_connect.specs.declared.doing.Became.TheVariants as became
-use Rattle.bayou_connect.specs.declared.doing.Spoken.{Spoken}
-use Rattle.bayou_connect.specs.declared.doing.Spoken.TheVariants.{Again, Help, Mine, Wait, Quit}
+use Rattle.bayou_connect.specs.declared.desk.PersonDesk.{PersonDesk}
+use Rattle.bayou_connect.specs.declared.desk.MadeWrite.{MadeWrite}
+use Rattle.bayou_connect.specs.declared.doing.LineBecame.{LineBecame}
+use Rattle.bayou_connect.specs.declared.doing.LineBecame.TheVariants as became
+use Rattle.bayou_connect.specs.declared.doing.SpokenLine.{SpokenLine}
+use Rattle.bayou_connect.specs.declared.doing.SpokenLine.TheVariants.{Again, Help, Mine, Wait, Quit}
 use Rattle.bayou_connect.specs.declared.doing.Wrong.{Wrong}
 use Rattle.bayou_connect.specs.declared.doing.Wrong.TheVariants.{Script, Wish as NoWish}
 use Rattle.bayou_connect.specs.declared.fault.ConnectFault.{ConnectFault}
@@ -37,7 +37,7 @@ use Rattle.bayou_text.specs.declared.line.LineFault.TheVariants as lines
 use Rattle.bayou_wire.specs.declared.lookup.Placed.{Placed}
 
 -- the line is such a word
-abbrev pub spoken_of : List ℕ → Option Spoken
+abbrev pub spoken_of : List ℕ → Option SpokenLine
 spoken_of line =
     if bytes_eq line (codes "again") then Some Again
     else if bytes_eq line (codes "help") then Some Help
@@ -65,21 +65,21 @@ unread_line (lines.Key fault) = Ok (Script scripts.BadKey)
 unread_line (lines.Program fault) = Ok (Script scripts.BadProgram)
 
 -- A line of a script, read: a command is done, if it can be done here; any other line is of no use here, and nothing is done.
-abbrev pub DoesRead : Line → (old new : Desk) → (before after : Account) → (done : Bool) → Type 0
+abbrev pub DoesRead : Line → (old new : PersonDesk) → (before after : Account) → (done : Bool) → Type 0
 DoesRead (read.Command command) old new before after done = DoesCommand command old new before after done
 DoesRead (read.Servers count limit) old new before after done = (done ≡ false) × (new ≡ old) × (after ≡ before)
 DoesRead (read.Audit audited) old new before after done = (done ≡ false) × (new ≡ old) × (after ≡ before)
 
 -- the line says that, and it is done, or can't be done here
-abbrev pub DoesSaid : (line : List ℕ) → (old new : Desk) → (before after : Account) → (done : Bool) → Type 0
+abbrev pub DoesSaid : (line : List ℕ) → (old new : PersonDesk) → (before after : Account) → (done : Bool) → Type 0
 DoesSaid line old new before after done = (one : Line) × Spells line (said one) × DoesRead one old new before after done
 
 -- a line that isn't read, for this reason
-abbrev pub IsUnread : (line : List ℕ) → (old new : Desk) → (before after : Account) → Wrong → Type 0
+abbrev pub IsUnread : (line : List ℕ) → (old new : PersonDesk) → (before after : Account) → Wrong → Type 0
 IsUnread line old new before after wrong = (fault : LineFault) × IsRefusalOf line fault × (unread_line fault ≡ Ok wrong) × (new ≡ old) × (after ≡ before)
 
 -- A line of a script, done; or it is reported that it is wrong: it isn't read, or says what can't be done here.
-abbrev pub DoesScriptLine : (line : List ℕ) → (old new : Desk) → (before after : Account) → Became → Type 0
+abbrev pub DoesScriptLine : (line : List ℕ) → (old new : PersonDesk) → (before after : Account) → LineBecame → Type 0
 DoesScriptLine line old new before after became.Done = DoesSaid line old new before after true
 DoesScriptLine line old new before after (became.Wrong wrong) =
     IsUnread line old new before after wrong ⊎ ((wrong ≡ Script scripts.OutOfPlace) × DoesSaid line old new before after false)
@@ -91,7 +91,7 @@ abbrev pub IsNoWish : (line : List ℕ) → WishFault → Type 0
 IsNoWish line fault = ((fault ≡ Word) × ¬ (IsUtf8 line)) ⊎ IsFaultOf line fault
 
 -- A wish, done; or it is reported that the line is wrong: it is none, or one that can't be done here.
-abbrev pub DoesWishLine : (line : List ℕ) → (old new : Desk) → (before after : Account) → Became → Type 0
+abbrev pub DoesWishLine : (line : List ℕ) → (old new : PersonDesk) → (before after : Account) → LineBecame → Type 0
 DoesWishLine line old new before after became.Done = (wish : Wish) × Wishes line wish × DoesWish wish old new before after true
 DoesWishLine line old new before after (became.Wrong (NoWish fault)) = IsNoWish line fault × (new ≡ old) × (after ≡ before)
 DoesWishLine line old new before after (became.Wrong (Script fault)) =
@@ -100,25 +100,25 @@ DoesWishLine line old new before after became.Quit = ⊥
 DoesWishLine line old new before after became.Ended = ⊥
 
 -- It was waited until each own Write is final: that is what was asked for, unless one is left, or came to nothing.
-pub record Waits (old new : Desk) : Type 0 where
+pub record Waits (old new : PersonDesk) : Type 0 where
   pub served : new.is_served ≡ (old.is_served && not new.is_void && is_none (slice_get (own_in (outlook_of new.store.views)) 0))
   pub same : IsSameDesk old new
 
 -- the Write of short lines that may be asked again, once more; and what became of it, where it was accepted
-pub record AsksOnceMore (old new : Desk) (before after : Account) : Type 0 where
-  pub made : Option Made
-  pub wrote : Desk
+pub record AsksOnceMore (old new : PersonDesk) (before after : Account) : Type 0 where
+  pub made : Option MadeWrite
+  pub wrote : PersonDesk
   pub line : Account
   pub again : WritesAgain own_session old wrote before line made
   pub rest : MatchOption made ((new ≡ wrote) × (after ≡ line)) (λ made. (placed : Option Placed) × TellsOutcome own_session made wrote new line after placed)
 
 -- a line that is no such word: to wait so many seconds, or a wish
-abbrev pub DoesOther : (line : List ℕ) → (old new : Desk) → (before after : Account) → Became → Type 0
+abbrev pub DoesOther : (line : List ℕ) → (old new : PersonDesk) → (before after : Account) → LineBecame → Type 0
 DoesOther line old new before after done =
     ((seconds : ℕ) × AsksToWait line seconds × (done ≡ became.Done) × Waits old new) ⊎ DoesWishLine line old new before after done
 
 -- What a line says of the lines themselves, done: `help` prints what lines there are, and `quit` changes nothing and ends them.
-abbrev pub DoesWord : Spoken → (old new : Desk) → (before after : Account) → Became → Type 0
+abbrev pub DoesWord : SpokenLine → (old new : PersonDesk) → (before after : Account) → LineBecame → Type 0
 DoesWord Again old new before after done = (done ≡ became.Done) × AsksOnceMore old new before after
 DoesWord Help old new before after done = (done ≡ became.Done) × (new ≡ old) × TakesBytes before after HELP.now
 DoesWord Mine old new before after done = (done ≡ became.Done) × IsSameDesk old new × (new.is_served ≡ old.is_served)
@@ -127,11 +127,11 @@ DoesWord Wait old new before after done = (done ≡ became.Done) × Waits old ne
 DoesWord Quit old new before after done = (done ≡ became.Quit) × (new ≡ old) × (after ≡ before)
 
 -- a short line, done
-abbrev pub DoesShort : (line : List ℕ) → (old new : Desk) → (before after : Account) → Became → Type 0
+abbrev pub DoesShort : (line : List ℕ) → (old new : PersonDesk) → (before after : Account) → LineBecame → Type 0
 DoesShort line old new before after done = MatchOption (spoken_of line) (DoesOther line old new before after done) (λ word. DoesWord word old new before after done)
 
 -- Such a word, done: `quit` changes nothing and ends the lines, and no other word does; `help` prints what lines there are.
-pub record DoesSpoken (spoken : Option Spoken) (result : Result Became ConnectFault) (old new : Desk) (before after : Account) : Type 0 where
+pub record DoesSpoken (spoken : Option SpokenLine) (result : Result LineBecame ConnectFault) (old new : PersonDesk) (before after : Account) : Type 0 where
   pub quits : spoken ≡ Some Quit → (result ≡ Ok became.Quit) × (new ≡ old) × (after ≡ before)
   pub ends : IfOk result (λ done. done ≡ became.Quit → spoken ≡ Some Quit)
   pub helps : spoken ≡ Some Help → OnOk result (TakesBytes before after HELP.now) × (new ≡ old)
@@ -142,7 +142,7 @@ is_of_script [] = false
 is_of_script (byte ∷ bytes) = byte == 91
 
 -- What becomes of a line, of which these are the bytes without the white space around them: a blank one does nothing.
-pub record DoesLine (line words : List ℕ) (result : Result Became ConnectFault) (old new : Desk) (before after : Account) : Type 0 where
+pub record DoesLine (line words : List ℕ) (result : Result LineBecame ConnectFault) (old new : PersonDesk) (before after : Account) : Type 0 where
   pub blank : words ≡ [] → (result ≡ Ok became.Done) × (new ≡ old) × (after ≡ before)
   pub spoken : DoesSpoken (spoken_of words) result old new before after
   pub script : is_of_script words ≡ true → IfOk result (DoesScriptLine line old new before after)

@@ -2,7 +2,7 @@
 use Rattle.std.specs.Prelude.{◌≡◌, List, ℕ, if◌then◌else◌, MatchOption, Option, None, is_some}
 use Rattle.bayou_connect.specs.Finals.{IsLearnt, finals_in, keeps_finals, outlook_of}
 use Rattle.bayou_connect.specs.Listing.{standing_told}
-use Rattle.bayou_connect.specs.declared.desk.Desk.{Desk}
+use Rattle.bayou_connect.specs.declared.desk.PersonDesk.{PersonDesk}
 use Rattle.bayou_connect.specs.declared.looking.Beyond.{Beyond}
 use Rattle.bayou_connect.specs.declared.store.Store.{Store}
 use Rattle.bayou_outlook.specs.declared.outlook.Outlook.{Outlook}
@@ -18,7 +18,7 @@ abbrev pub Learns : (old : Option Outlook) → (view : List ℕ) → (new : Opti
 Learns old view new beyond = MatchOption beyond (finals_in new ≡ finals_in old) (IsLearnt old view new)
 
 -- How the value stands of a key that was read last is printed, where it is kept what is final: by the keys that may change yet where it was read.
-abbrev pub TellsKeyStanding : (key : List ℕ) → (old new : Desk) → (before after : Account) → Type 0
+abbrev pub TellsKeyStanding : (key : List ℕ) → (old new : PersonDesk) → (before after : Account) → Type 0
 TellsKeyStanding key old new before after = MatchOption (view_read old.store) (after ≡ before)
     (λ view. (beyond : Option Beyond) × Learns (outlook_of old.store.views) view (outlook_of new.store.views) beyond
     × MatchOption (standing_told (keeps_finals (outlook_of new.store.views)) beyond key) (after ≡ before)

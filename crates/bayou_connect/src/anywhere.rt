@@ -2,11 +2,11 @@
 ghost use Rattle.std.specs.Prelude.{◌≡◌, IfOk};
 ghost use Rattle.bayou_connect.specs.Anywhere.{AsksAnywhere, AsksAt};
 
-use crate::asking::Attempt;
+use crate::asking::Requested;
 use crate::fault::ConnectFault;
 use crate::round::{Ways, in_rounds};
 use crate::store::Store;
-use crate::told::Told;
+use crate::told::ServerTold;
 use bayou_base::SessionId;
 use bayou_net::Sockets;
 use std::fs::{File, Files};
@@ -18,7 +18,7 @@ use std::time::Clock;
 struct Asking<'a, T> {
     rt: &'a T,
     who: SessionId,
-    attempt: &'a Attempt,
+    attempt: &'a Requested,
 }
 
 impl<'a, T: Files<File = File> + Sockets + Wait + Clock> Ways<Asking<'a, T>> for Store {
@@ -26,7 +26,7 @@ impl<'a, T: Files<File = File> + Sockets + Wait + Clock> Ways<Asking<'a, T>> for
 
     ghost asks = { λ what old at new told. AsksAt what.who what.attempt.now old at new told };
 
-    fn ask(&mut self, what: &Asking<'a, T>, at: usize) -> Result<Told, ConnectFault> {
+    fn ask(&mut self, what: &Asking<'a, T>, at: usize) -> Result<ServerTold, ConnectFault> {
         let attempt = what.attempt.copy(self.alloc())?;
         self.ask_at(what.rt, what.who, at, attempt)
     }
@@ -37,14 +37,14 @@ pub(crate) fn anywhere<T: Files<File = File> + Sockets + Wait + Clock>(
     rt: &T,
     store: &mut Store,
     who: SessionId,
-    attempt: &Attempt,
+    attempt: &Requested,
     first: usize,
     rounds: u64,
-) -> Result<Told, ConnectFault>
+) -> Result<ServerTold, ConnectFault>
     ensures { IfOk result (AsksAnywhere who attempt.now first rounds store.old store.new) }
 {
     if first >= store.len() {
-        return Ok(Told::Away);
+        return Ok(ServerTold::Away);
     }
     let order = store.order(rt, first)?;
     let asking = Asking { rt, who, attempt };

@@ -8,7 +8,7 @@ ghost use Rattle.bayou_connect.specs.Operating.{HasDone, IsNoService, TellsFate,
 use crate::fault::ConnectFault;
 use crate::reach::Purpose;
 use crate::remembering::StateFile;
-use crate::told::Told;
+use crate::told::ServerTold;
 use bayou_base::{Accepted, Entry, Key, Seen, ServerId, Vector, Wid};
 use bayou_client::{Asker, Heard, Link, LinkFault};
 use bayou_lang::RestingProgram;
@@ -18,7 +18,7 @@ use std::io::{Read, Write};
 
 /// What is asked of a server.
 #[derive(Drop)]
-pub enum Attempt {
+pub enum Requested {
     Read(Key),
     /// Rows, which are read too.
     List(RowsAsked),
@@ -45,17 +45,17 @@ fn copy_of(asked: &RowsAsked) -> RowsAsked
     }
 }
 
-impl Attempt {
+impl Requested {
     /// The same once more.
     pub fn copy(&self, alloc: Global) -> Result<Self, AllocError>
         ensures { IfOk result (λ copied. copied ≡ self.now) }
     {
         match self {
-            Attempt::Read(key) => Ok(Attempt::Read(key.copy())),
-            Attempt::List(asked) => Ok(Attempt::List(copy_of(asked))),
-            Attempt::Became(wid) => Ok(Attempt::Became(*wid)),
-            Attempt::Write(program) => Ok(Attempt::Write(program.copy(alloc)?)),
-            Attempt::Again => Ok(Attempt::Again),
+            Requested::Read(key) => Ok(Requested::Read(key.copy())),
+            Requested::List(asked) => Ok(Requested::List(copy_of(asked))),
+            Requested::Became(wid) => Ok(Requested::Became(*wid)),
+            Requested::Write(program) => Ok(Requested::Write(program.copy(alloc)?)),
+            Requested::Again => Ok(Requested::Again),
         }
     }
 
@@ -65,7 +65,7 @@ impl Attempt {
     {
         matches!(
             self,
-            Attempt::Read(_) | Attempt::List(_) | Attempt::Became(_)
+            Requested::Read(_) | Requested::List(_) | Requested::Became(_)
         )
     }
 
@@ -74,8 +74,8 @@ impl Attempt {
         ensures { result ≡ purpose_of self.now }
     {
         match self {
-            Attempt::List(_) | Attempt::Became(_) => Purpose::Lookups,
-            Attempt::Read(_) | Attempt::Write(_) | Attempt::Again => Purpose::Requests,
+            Requested::List(_) | Requested::Became(_) => Purpose::Lookups,
+            Requested::Read(_) | Requested::Write(_) | Requested::Again => Purpose::Requests,
         }
     }
 }
@@ -83,17 +83,17 @@ impl Attempt {
 /// What became of it: what the session heard, and what is entered of it.
 #[derive(Drop)]
 pub(crate) struct Done {
-    pub(crate) told: Told,
+    pub(crate) told: ServerTold,
     pub(crate) entry: Option<Entry>,
 }
 
 // What an operation hears that wasn't served.
-fn unserved(fault: LinkFault) -> Told
+fn unserved(fault: LinkFault) -> ServerTold
     ensures { IsNoService result }
 {
     match fault {
-        LinkFault::Refused(refusal) => Told::Refused(refusal),
-        LinkFault::Lost | LinkFault::BadFrame | LinkFault::OutOfMemory => Told::Lost,
+        LinkFault::Refused(refusal) => ServerTold::Refused(refusal),
+        LinkFault::Lost | LinkFault::BadFrame | LinkFault::OutOfMemory => ServerTold::Lost,
     }
 }
 
@@ -104,7 +104,7 @@ fn done_by_read(heard: Heard<Seen>) -> Done
     let Heard { told, entry } = heard;
     match told {
         Ok(seen) => Done {
-            told: Told::Seen(seen),
+            told: ServerTold::Seen(seen),
             entry,
         },
         Err(fault) => Done {
@@ -121,7 +121,7 @@ fn done_by_rows(heard: Heard<Page>) -> Done
     let Heard { told, entry } = heard;
     match told {
         Ok(page) => Done {
-            told: Told::Rows(page),
+            told: ServerTold::Rows(page),
             entry,
         },
         Err(fault) => Done {
@@ -138,7 +138,7 @@ fn done_by_fate(heard: Heard<Fate>) -> Done
     let Heard { told, entry } = heard;
     match told {
         Ok(fate) => Done {
-            told: Told::Fate(fate),
+            told: ServerTold::Fate(fate),
             entry,
         },
         Err(fault) => Done {
@@ -155,7 +155,7 @@ fn done_by_write(heard: Heard<Accepted>) -> Done
     let Heard { told, entry } = heard;
     match told {
         Ok(accepted) => Done {
-            told: Told::Accepted(accepted),
+            told: ServerTold::Accepted(accepted),
             entry,
         },
         Err(fault) => Done {
@@ -287,7 +287,7 @@ fn again<R: Read, W: Write>(
 {
     if asker.asked().is_none() {
         let done = Done {
-            told: Told::Lost,
+            told: ServerTold::Lost,
             entry: None,
         };
         return tell(alloc, state, asker, done);
@@ -304,20 +304,20 @@ pub(crate) fn operate<R: Read, W: Write>(
     asker: &mut Asker,
     link: &mut Link<R, W>,
     server: ServerId,
-    attempt: Attempt,
+    attempt: Requested,
 ) -> Result<Done, ConnectFault>
     requires { asker.old.session.begun < MAX_PLACES }
     ensures done { IfOk result (λ done. HasDone attempt server asker.old asker.new done.told) }
     ensures kept { OnOk result (IsKeptLast state.new asker.new) }
 {
     match attempt {
-        Attempt::Read(key) => read(alloc, state, asker, link, server, &key),
-        Attempt::List(asked) => list(alloc, state, asker, link, server, &asked),
-        Attempt::Became(wid) => became(alloc, state, asker, link, server, wid),
-        Attempt::Write(program) => {
+        Requested::Read(key) => read(alloc, state, asker, link, server, &key),
+        Requested::List(asked) => list(alloc, state, asker, link, server, &asked),
+        Requested::Became(wid) => became(alloc, state, asker, link, server, wid),
+        Requested::Write(program) => {
             asker.ask(server, program);
             write(alloc, state, asker, link)
         }
-        Attempt::Again => again(alloc, state, asker, link),
+        Requested::Again => again(alloc, state, asker, link),
     }
 }

@@ -17,7 +17,7 @@ use std::io::{Read, Write};
 
 /// A file to whose end entries and held Writes are put, of so many servers.
 #[derive(Drop)]
-pub(crate) struct AuditFile {
+pub(crate) struct AuditWriter {
     file: File,
     count: u8,
     ghost in_range: { (0 < count) × (count ≤ NUMBER) },
@@ -104,7 +104,7 @@ fn put_writes<W: Write>(
     Ok(())
 }
 
-impl AuditFile {
+impl AuditWriter {
     /// The file of this name, which is made where it isn't there, and locked as long as it is used. One that is there has to be of as many
     /// servers.
     pub(crate) fn open<T: Files<File = File>>(
@@ -128,7 +128,7 @@ impl AuditFile {
         if file.try_lock().is_err() || !begin(&mut file, alloc, first.as_bytes()) {
             return Err(ConnectFault::BookNotOpened);
         }
-        Ok(AuditFile { file, count })
+        Ok(AuditWriter { file, count })
     }
 
     /// Puts an entry at its end.

@@ -6,10 +6,10 @@ ghost use Rattle.bayou_connect.specs.Operating.{SeesOther};
 ghost use Rattle.bayou_streams.specs.Account.{account};
 
 use crate::anywhere::anywhere;
-use crate::asking::Attempt;
-use crate::desk::{Desk, Made};
+use crate::asking::Requested;
+use crate::desk::{MadeWrite, PersonDesk};
 use crate::fault::ConnectFault;
-use crate::told::Told;
+use crate::told::ServerTold;
 use bayou_base::{Key, Seen, SessionId, Value};
 use bayou_lang::RestingProgram;
 use bayou_net::Sockets;
@@ -28,17 +28,17 @@ pub(crate) struct Claim<'a> {
 }
 
 // Whether a read was served, and saw another value than this, or none.
-fn is_other(told: &Told, value: &Value) -> bool
+fn is_other(told: &ServerTold, value: &Value) -> bool
     ensures { result ≡ true ↔ SeesOther value.now told.now }
 {
     match told {
-        Told::Seen(seen) => seen.value.as_ref() != Some(value),
-        Told::Away
-        | Told::Rows(_)
-        | Told::Fate(_)
-        | Told::Accepted(_)
-        | Told::Refused(_)
-        | Told::Lost => false,
+        ServerTold::Seen(seen) => seen.value.as_ref() != Some(value),
+        ServerTold::Away
+        | ServerTold::Rows(_)
+        | ServerTold::Fate(_)
+        | ServerTold::Accepted(_)
+        | ServerTold::Refused(_)
+        | ServerTold::Lost => false,
     }
 }
 
@@ -62,7 +62,7 @@ fn is_text(seen: &Option<Seen>) -> bool
     }
 }
 
-impl Desk {
+impl PersonDesk {
     // Has the session read the key, at any server. Whether the key has another value than this; else what it learned is printed.
     fn is_free<W: Write, T: Files<File = File> + Sockets + Wait + Clock>(
         &mut self,
@@ -75,7 +75,7 @@ impl Desk {
         ensures read { IfOk result (LooksFree who value.now key.now self.old self.new (account W.contents output.old) (account W.contents output.new)) }
         ensures same { IsSameSeat self.old self.new }
     {
-        let attempt = Attempt::Read(key.copy());
+        let attempt = Requested::Read(key.copy());
         let told = anywhere(rt, &mut self.store, who, &attempt, self.first, self.rounds)?;
         if is_other(&told, value) {
             return Ok(true);
@@ -120,7 +120,7 @@ impl Desk {
         ensures told { IfOk result (TellsKey who value.now at key.now self.old self.new (account W.contents output.old) (account W.contents output.new)) }
         ensures same { IsSameSeat self.old self.new }
     {
-        let told = self.store.ask_at(rt, who, at, Attempt::Read(key.copy()))?;
+        let told = self.store.ask_at(rt, who, at, Requested::Read(key.copy()))?;
         let is_other = is_other(&told, value);
         self.finish(output, who, &Some(key.copy()), told)?;
         Ok(is_other)
@@ -176,7 +176,7 @@ impl Desk {
         rt: &T,
         output: &mut Output<W>,
         who: SessionId,
-        made: Made,
+        made: MadeWrite,
         claim: Claim<'_>,
     ) -> Result<(), ConnectFault>
         ensures { OnOk result (TellsMade who claim.entry.value.now (claim.entry.key.now ∷ claim.entry.others.now) made self.old self.new (account W.contents output.old) (account W.contents output.new)) }
@@ -248,7 +248,7 @@ impl Desk {
         rt: &T,
         output: &mut Output<W>,
         who: SessionId,
-        made: Made,
+        made: MadeWrite,
         key: &Key,
     ) -> Result<(), ConnectFault>
         ensures { OnOk result (TellsAdded who made self.old self.new (account W.contents output.old) (account W.contents output.new)) }

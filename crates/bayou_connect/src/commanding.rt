@@ -5,8 +5,8 @@ ghost use Rattle.bayou_connect.specs.Commands.{AsksAgain, DoesCommand, Operates,
 ghost use Rattle.bayou_connect.specs.Sessions.{IsOpenedFrom, kept_of};
 ghost use Rattle.bayou_streams.specs.Account.{account};
 
-use crate::asking::Attempt;
-use crate::desk::{Desk, Made, numbered, print};
+use crate::asking::Requested;
+use crate::desk::{MadeWrite, PersonDesk, numbered, print};
 use crate::fault::ConnectFault;
 use bayou_answers::Answer;
 use bayou_base::{Asks, Key, ServerId, SessionId};
@@ -19,7 +19,7 @@ use std::io::Write;
 use std::sync::Wait;
 use std::time::Clock;
 
-impl Desk {
+impl PersonDesk {
     // An operation of a session: at the server that is named, once. Whether that is at hand, and the session is open.
     fn operate_at<W: Write, T: Files<File = File> + Sockets + Wait + Clock>(
         &mut self,
@@ -28,7 +28,7 @@ impl Desk {
         who: SessionId,
         server: ServerId,
         key: Option<Key>,
-        attempt: Attempt,
+        attempt: Requested,
     ) -> Result<bool, ConnectFault>
         ensures { IfOk result (OperatesAt who server key attempt self.old self.new (account W.contents output.old) (account W.contents output.new)) }
     {
@@ -81,7 +81,7 @@ impl Desk {
                 self.tell_none_again(output, who)?;
                 Ok(true)
             }
-            Some(Some(server)) => self.operate_at(rt, output, who, server, None, Attempt::Again),
+            Some(Some(server)) => self.operate_at(rt, output, who, server, None, Requested::Again),
         }
     }
 
@@ -92,13 +92,13 @@ impl Desk {
         output: &mut Output<W>,
         who: SessionId,
         server: ServerId,
-    ) -> Result<Option<Made>, ConnectFault>
+    ) -> Result<Option<MadeWrite>, ConnectFault>
         ensures { IfOk result (WritesAgainAt who server self.old self.new (account W.contents output.old) (account W.contents output.new)) }
     {
         let Some(at) = self.store.place_of(server) else {
             return Ok(None);
         };
-        let told = self.store.ask_at(rt, who, at, Attempt::Again)?;
+        let told = self.store.ask_at(rt, who, at, Requested::Again)?;
         let made = self.made_by(&told);
         self.finish(output, who, &None, told)?;
         Ok(made)
@@ -110,7 +110,7 @@ impl Desk {
         rt: &T,
         output: &mut Output<W>,
         who: SessionId,
-    ) -> Result<Option<Made>, ConnectFault>
+    ) -> Result<Option<MadeWrite>, ConnectFault>
         ensures { IfOk result (WritesAgain who self.old self.new (account W.contents output.old) (account W.contents output.new)) }
     {
         match self.server_again(who) {
@@ -135,10 +135,10 @@ impl Desk {
         let who = operation.session;
         match operation.attempt {
             Said::Write { server, program } => {
-                self.operate_at(rt, output, who, server, None, Attempt::Write(program))
+                self.operate_at(rt, output, who, server, None, Requested::Write(program))
             }
             Said::Read { server, key } => {
-                let asked = Attempt::Read(key.copy());
+                let asked = Requested::Read(key.copy());
                 self.operate_at(rt, output, who, server, Some(key), asked)
             }
             Said::Again => self.ask_again(rt, output, who),

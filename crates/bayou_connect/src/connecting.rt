@@ -12,13 +12,13 @@ ghost use Rattle.bayou_connect.specs.Taking.{DoesNext, ended_as};
 ghost use Rattle.bayou_connect.specs.Reader.{left_in};
 ghost use Rattle.bayou_streams.specs.Account.{account};
 
-use crate::audit_file::AuditFile;
-use crate::desk::{Desk, OWN, numbered};
-use crate::doing::{Became, Wrong, do_line};
+use crate::audit_file::AuditWriter;
+use crate::desk::{OWN, PersonDesk, numbered};
+use crate::doing::{LineBecame, Wrong, do_line};
 use crate::fault::ConnectFault;
 use crate::finals::Telling;
-use crate::lines::{Lines, Next};
-use crate::plan::{Plan, asks_of_both, asks_text};
+use crate::lines::{InputLines, NextLine};
+use crate::plan::{SessionPlan, asks_of_both, asks_text};
 use crate::reach::{DRAWN_BYTES, Greeter};
 use crate::remembering::{Remembered, StateFile, remember};
 use crate::round::ROUNDS_PER_SECOND;
@@ -63,7 +63,7 @@ pub struct Names<'a> {
 
 /// How all lines ended.
 #[derive(Clone, Copy, Debug, PartialEq, Eq)]
-pub enum Ended {
+pub enum LinesEnded {
     /// Each operation was served.
     Served,
     /// Some wasn't.
@@ -90,21 +90,21 @@ pub(crate) fn tell_wrong<E: Write>(
 // Does the next line, and tells what became of it. After the end of the input there is none.
 fn do_next<I: Read, W: Write, T: Files<File = File> + Sockets + Wait + Clock>(
     rt: &T,
-    desk: &mut Desk,
-    lines: &mut Lines<I>,
+    desk: &mut PersonDesk,
+    lines: &mut InputLines<I>,
     output: &mut Output<W>,
-) -> Result<Became, ConnectFault>
+) -> Result<LineBecame, ConnectFault>
     ensures { IfOk result (DoesNext (left_in I.remaining lines.old) (left_in I.remaining lines.new) desk.old desk.new (account W.contents output.old) (account W.contents output.new)) }
 {
     match lines.next_line()? {
-        Next::End => Ok(Became::Ended),
-        Next::TooLong => Ok(Became::Wrong(Wrong::Script(ScriptFault::BadShape))),
-        Next::Line(line) => do_line(rt, desk, output, &line),
+        NextLine::End => Ok(LineBecame::Ended),
+        NextLine::TooLong => Ok(LineBecame::Wrong(Wrong::Script(ScriptFault::BadShape))),
+        NextLine::Line(line) => do_line(rt, desk, output, &line),
     }
 }
 
 // Asks for the next line, as far as it can; the prompt names the server that is asked first.
-fn prompt<E: Write>(desk: &Desk, errors: &mut E) -> Result<(), ConnectFault>
+fn prompt<E: Write>(desk: &PersonDesk, errors: &mut E) -> Result<(), ConnectFault>
     ensures { IfErr result (λ fault. fault ≡ Memory) }
 {
     let Some(server) = desk.store.server_at(desk.first) else {
@@ -118,7 +118,10 @@ fn prompt<E: Write>(desk: &Desk, errors: &mut E) -> Result<(), ConnectFault>
 }
 
 // Reports, as far as it can, who answered in place of a server, where it didn't yet.
-pub(crate) fn tell_strangers<E: Write>(desk: &mut Desk, errors: &mut E) -> Result<(), ConnectFault>
+pub(crate) fn tell_strangers<E: Write>(
+    desk: &mut PersonDesk,
+    errors: &mut E,
+) -> Result<(), ConnectFault>
     ensures same { IsSameDesk desk.old desk.new }
     ensures fault { IfErr result (λ fault. fault ≡ Memory) }
 {
@@ -134,7 +137,7 @@ pub(crate) fn tell_strangers<E: Write>(desk: &mut Desk, errors: &mut E) -> Resul
 }
 
 // Reports, as far as it can, that a Write was refused since a log is full, where it didn't yet.
-pub(crate) fn tell_full<E: Write>(desk: &mut Desk, errors: &mut E)
+pub(crate) fn tell_full<E: Write>(desk: &mut PersonDesk, errors: &mut E)
     ensures told { desk.new.store.is_full ≡ false }
     ensures same { IsSameDesk desk.old desk.new }
 {
@@ -146,11 +149,11 @@ pub(crate) fn tell_full<E: Write>(desk: &mut Desk, errors: &mut E)
 // Does the lines that the reader has left, as they come. Each that can't be done is reported; it ends the input, unless a person types it.
 fn do_lines<I, W, E, T>(
     rt: &T,
-    desk: &mut Desk,
+    desk: &mut PersonDesk,
     input: Input<I>,
     output: &mut Output<W>,
     errors: &mut E,
-) -> Result<Ended, ConnectFault>
+) -> Result<LinesEnded, ConnectFault>
 where
     I: Read + Drop,
     W: Write,
@@ -162,7 +165,7 @@ where
         reader,
         is_terminal,
     } = input;
-    let mut lines = Lines::new(desk.alloc, reader);
+    let mut lines = InputLines::new(desk.alloc, reader);
     let mut is_wrong = false;
     desk.tell_finals(rt, output, Telling::News)?;
     for number in 1..u64::MAX {
@@ -174,16 +177,16 @@ where
         tell_strangers(desk, errors)?;
         tell_full(desk, errors);
         match became {
-            Became::Done => {}
-            Became::Quit => break,
-            Became::Ended => {
+            LineBecame::Done => {}
+            LineBecame::Quit => break,
+            LineBecame::Ended => {
                 if is_terminal {
                     // What is printed next stands on a line of its own.
                     let _ = errors.write_all(b"\n");
                 }
                 break;
             }
-            Became::Wrong(wrong) => {
+            LineBecame::Wrong(wrong) => {
                 tell_wrong(desk.alloc, errors, number, wrong)?;
                 is_wrong = true;
                 if !is_terminal {
@@ -197,13 +200,13 @@ where
 }
 
 // How all lines ended, by whether one of them couldn't be done, and whether each operation was served.
-pub(crate) fn ended_by(is_wrong: bool, is_served: bool) -> Ended
+pub(crate) fn ended_by(is_wrong: bool, is_served: bool) -> LinesEnded
     ensures { result ≡ ended_as is_wrong is_served }
 {
     match (is_wrong, is_served) {
-        (true, _) => Ended::Refused,
-        (false, true) => Ended::Served,
-        (false, false) => Ended::Unserved,
+        (true, _) => LinesEnded::Refused,
+        (false, true) => LinesEnded::Served,
+        (false, false) => LinesEnded::Unserved,
     }
 }
 
@@ -326,14 +329,14 @@ fn book_in<T: Files<File = File>>(
     alloc: Global,
     name: Option<&str>,
     servers: u8,
-) -> Result<Option<AuditFile>, ConnectFault>
+) -> Result<Option<AuditWriter>, ConnectFault>
     requires { (0 < servers) × (servers ≤ SERVERS_NUMBER) }
     ensures book { IfOk result (λ book. MatchOption (option_copied name.entry) (book ≡ None) (λ path. IsSomeAnd book (λ file. file.count ≡ servers))) }
     ensures fault { IfErr result IsBookFault }
 {
     match name {
         None => Ok(None),
-        Some(path) => Ok(Some(AuditFile::open(rt, alloc, path, servers)?)),
+        Some(path) => Ok(Some(AuditWriter::open(rt, alloc, path, servers)?)),
     }
 }
 
@@ -349,7 +352,7 @@ fn asks_kept(sessions: &[Option<Asker>], who: SessionId) -> Option<Asks>
 }
 
 // What the session asks for that the words speak of: what they say and what it asked for when it was kept, or nothing. `None` where these are two.
-fn own_asks(plan: &Plan, sessions: &[Option<Asker>], who: SessionId) -> Option<Asks>
+fn own_asks(plan: &SessionPlan, sessions: &[Option<Asker>], who: SessionId) -> Option<Asks>
     requires { length sessions.now ≡ NUMBER }
     ensures { let kept = option_map (λ kept. kept.session.asks) (kept_of sessions.now who) in MatchOption result (Differ plan.now.asks kept) (AsksBoth plan.now.asks kept) }
 {
@@ -377,13 +380,13 @@ fn tell_other_asks<E: Write>(
 // A desk for the plan, at which session 0 has this number in tags and in the book, and the session is open and asks for this.
 pub(crate) fn desk_of(
     alloc: Global,
-    plan: &Plan,
+    plan: &SessionPlan,
     store: Store,
     run: u32,
     first_number: SessionId,
     who: SessionId,
     asks: Asks,
-) -> Desk
+) -> PersonDesk
     requires { 0 < run }
     ensures session { IsOpenedFrom first_number who run asks store.sessions.items result.store.sessions.items }
     ensures plan { (result.servers ≡ plan.now.servers) × (result.is_json ≡ plan.now.is_json) × (result.rounds ≡ plan.now.wait_seconds * ROUNDS_PER_SECOND) }
@@ -391,7 +394,7 @@ pub(crate) fn desk_of(
 {
     let mut store = store;
     store.open(who, numbered(first_number, who), run, asks);
-    Desk {
+    PersonDesk {
         alloc,
         store,
         servers: plan.servers,
@@ -411,11 +414,11 @@ pub(crate) fn desk_of(
 pub(crate) fn opened_desk<E, T>(
     rt: &T,
     alloc: Global,
-    plan: &Plan,
+    plan: &SessionPlan,
     key: Option<StoreKey>,
     names: Names<'_>,
     errors: &mut E,
-) -> Result<Option<Desk>, ConnectFault>
+) -> Result<Option<PersonDesk>, ConnectFault>
 where
     E: Write,
     T: Files<File = File> + RandomSource,
@@ -460,13 +463,13 @@ where
 pub fn connect_plan<I, W, E, T>(
     rt: &T,
     alloc: Global,
-    plan: &Plan,
+    plan: &SessionPlan,
     key: Option<StoreKey>,
     names: Names<'_>,
     input: Input<I>,
     output: &mut Output<W>,
     errors: &mut E,
-) -> Result<Ended, ConnectFault>
+) -> Result<LinesEnded, ConnectFault>
 where
     I: Read + Drop,
     W: Write,
@@ -474,7 +477,7 @@ where
     T: Files<File = File> + Sockets + Wait + Clock + RandomSource,
 {
     let Some(mut desk) = opened_desk(rt, alloc, plan, key, names, errors)? else {
-        return Ok(Ended::Refused);
+        return Ok(LinesEnded::Refused);
     };
     do_lines(rt, &mut desk, input, output, errors)
 }

@@ -9,7 +9,7 @@ ghost use Rattle.bayou_streams.specs.Account.{TakesBytes, account};
 use crate::fault::ConnectFault;
 use crate::saying::{nothing_line, told_line};
 use crate::store::Store;
-use crate::told::Told;
+use crate::told::ServerTold;
 use bayou_base::{Accepted, Key, SESSIONS, SessionId, Wid};
 use bayou_print::write_text;
 use bayou_streams::Output;
@@ -21,7 +21,7 @@ pub(crate) const OWN: SessionId = SessionId { index: 0 };
 
 /// What a person has at hand.
 #[derive(Drop)]
-pub(crate) struct Desk {
+pub(crate) struct PersonDesk {
     pub(crate) alloc: Global,
     pub(crate) store: Store,
     /// How many counts of a vector are printed.
@@ -48,7 +48,7 @@ pub(crate) struct Desk {
 
 /// A Write that was accepted: its server's place in the list, and its name.
 #[derive(Clone, Copy, Debug, PartialEq, Eq)]
-pub(crate) struct Made {
+pub(crate) struct MadeWrite {
     pub(crate) at: usize,
     pub(crate) wid: Wid,
     pub(crate) clock: u32,
@@ -76,14 +76,14 @@ pub(crate) fn print<W: Write>(output: &mut Output<W>, line: &str) -> Result<(), 
     Ok(())
 }
 
-impl Desk {
+impl PersonDesk {
     // Prints what an operation heard, with its key if it is a read.
     pub(crate) fn finish<W: Write>(
         &mut self,
         output: &mut Output<W>,
         who: SessionId,
         key: &Option<Key>,
-        told: Told,
+        told: ServerTold,
     ) -> Result<(), ConnectFault>
         ensures printed { OnOk result (TakesBytes (account W.contents output.old) (account W.contents output.new) (told_text self.old.servers who key.now told)) }
         ensures served { self.new.is_served ≡ (self.old.is_served && is_service told) }
@@ -92,7 +92,10 @@ impl Desk {
     {
         if !matches!(
             told,
-            Told::Seen(_) | Told::Rows(_) | Told::Fate(_) | Told::Accepted(_)
+            ServerTold::Seen(_)
+                | ServerTold::Rows(_)
+                | ServerTold::Fate(_)
+                | ServerTold::Accepted(_)
         ) {
             self.is_served = false;
         }
@@ -124,26 +127,26 @@ impl Desk {
     }
 
     // The Write that was accepted, where its server is at hand.
-    fn made_of(&self, accepted: &Accepted) -> Option<Made>
+    fn made_of(&self, accepted: &Accepted) -> Option<MadeWrite>
         ensures { IsMadeAs self.now.store.accesses.items accepted.now result }
     {
         let (wid, clock) = (accepted.wid, accepted.stamp.clock);
         let at = self.store.place_of(wid.origin)?;
-        Some(Made { at, wid, clock })
+        Some(MadeWrite { at, wid, clock })
     }
 
     // The Write that was accepted, if it was reported that one was, where its server is at hand.
-    pub(crate) fn made_by(&self, told: &Told) -> Option<Made>
+    pub(crate) fn made_by(&self, told: &ServerTold) -> Option<MadeWrite>
         ensures { IsMade self.now.store.accesses.items told.now result }
     {
         match told {
-            Told::Accepted(accepted) => self.made_of(accepted),
-            Told::Away
-            | Told::Seen(_)
-            | Told::Rows(_)
-            | Told::Fate(_)
-            | Told::Refused(_)
-            | Told::Lost => None,
+            ServerTold::Accepted(accepted) => self.made_of(accepted),
+            ServerTold::Away
+            | ServerTold::Seen(_)
+            | ServerTold::Rows(_)
+            | ServerTold::Fate(_)
+            | ServerTold::Refused(_)
+            | ServerTold::Lost => None,
         }
     }
 }

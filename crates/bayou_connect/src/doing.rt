@@ -2,11 +2,11 @@
 ghost use Rattle.std.specs.Prelude.{◌≡◌, ℕ, List, IfOk, IfSome, Ok, OnOk};
 ghost use Rattle.std.specs.Str.{IsTrimAscii};
 ghost use Rattle.bayou_connect.specs.Speaking.{AsksOnceMore, AsksToWait, DoesLine, DoesOther, DoesScriptLine, DoesShort, DoesSpoken, DoesWishLine, is_of_script, spoken_of, unread_line};
-ghost use Rattle.bayou_connect.specs.declared.doing.Became.TheVariants as became;
+ghost use Rattle.bayou_connect.specs.declared.doing.LineBecame.TheVariants as became;
 ghost use Rattle.bayou_person.specs.declared.wish.WishFault.{WishFault as NoWish};
 ghost use Rattle.bayou_streams.specs.Account.{account};
 
-use crate::desk::{Desk, OWN, print};
+use crate::desk::{OWN, PersonDesk, print};
 use crate::fault::ConnectFault;
 use crate::finals::{WAIT_SECONDS, telling_all};
 use crate::help::HELP;
@@ -35,7 +35,7 @@ pub enum Wrong {
 
 /// What became of a line.
 #[derive(Clone, Copy, Debug, PartialEq, Eq)]
-pub(crate) enum Became {
+pub(crate) enum LineBecame {
     /// It was done.
     Done,
     /// It can't be done.
@@ -48,7 +48,7 @@ pub(crate) enum Became {
 
 /// A line that is said of the lines themselves.
 #[derive(Clone, Copy, Debug, PartialEq, Eq)]
-pub(crate) enum Spoken {
+pub(crate) enum SpokenLine {
     /// To ask the last Write again.
     Again,
     /// To learn what lines there are.
@@ -77,21 +77,21 @@ fn wrong_of(fault: LineFault) -> Result<Wrong, ConnectFault>
 // Does a line of a script, and tells what became of it.
 fn do_script_line<W: Write, T: Files<File = File> + Sockets + Wait + Clock>(
     rt: &T,
-    desk: &mut Desk,
+    desk: &mut PersonDesk,
     output: &mut Output<W>,
     line: &[u8],
-) -> Result<Became, ConnectFault>
+) -> Result<LineBecame, ConnectFault>
     ensures { IfOk result (DoesScriptLine line.now desk.old desk.new (account W.contents output.old) (account W.contents output.new)) }
 {
     let command = match read_line(desk.alloc, line) {
         Ok(Line::Command(command)) => command,
-        Ok(_) => return Ok(Became::Wrong(Wrong::Script(ScriptFault::OutOfPlace))),
-        Err(fault) => return Ok(Became::Wrong(wrong_of(fault)?)),
+        Ok(_) => return Ok(LineBecame::Wrong(Wrong::Script(ScriptFault::OutOfPlace))),
+        Err(fault) => return Ok(LineBecame::Wrong(wrong_of(fault)?)),
     };
     if desk.command(rt, output, command)? {
-        return Ok(Became::Done);
+        return Ok(LineBecame::Done);
     }
-    Ok(Became::Wrong(Wrong::Script(ScriptFault::OutOfPlace)))
+    Ok(LineBecame::Wrong(Wrong::Script(ScriptFault::OutOfPlace)))
 }
 
 // For how many seconds a line asks to wait, if it says that in digits after the word.
@@ -107,15 +107,15 @@ fn seconds_in(line: &[u8]) -> Option<u32>
 }
 
 // The line that a person says of the lines themselves, if it is one.
-fn spoken_in(line: &[u8]) -> Option<Spoken>
+fn spoken_in(line: &[u8]) -> Option<SpokenLine>
     ensures { result ≡ spoken_of line.now }
 {
     match line {
-        b"again" => Some(Spoken::Again),
-        b"help" => Some(Spoken::Help),
-        b"quit" => Some(Spoken::Quit),
-        b"mine" => Some(Spoken::Mine),
-        b"wait" => Some(Spoken::Wait),
+        b"again" => Some(SpokenLine::Again),
+        b"help" => Some(SpokenLine::Help),
+        b"quit" => Some(SpokenLine::Quit),
+        b"mine" => Some(SpokenLine::Mine),
+        b"wait" => Some(SpokenLine::Wait),
         _ => None,
     }
 }
@@ -123,32 +123,32 @@ fn spoken_in(line: &[u8]) -> Option<Spoken>
 // Does a line that is a wish, and tells what became of it.
 fn do_wish<W: Write, T: Files<File = File> + Sockets + Wait + Clock>(
     rt: &T,
-    desk: &mut Desk,
+    desk: &mut PersonDesk,
     output: &mut Output<W>,
     line: &[u8],
-) -> Result<Became, ConnectFault>
-    ensures wrong { (fault : NoWish) → result ≡ Ok (Became.Wrong (Wrong.Wish fault)) → (desk.new ≡ desk.old) × (output.new ≡ output.old) }
+) -> Result<LineBecame, ConnectFault>
+    ensures wrong { (fault : NoWish) → result ≡ Ok (LineBecame.Wrong (Wrong.Wish fault)) → (desk.new ≡ desk.old) × (output.new ≡ output.old) }
     ensures does { IfOk result (DoesWishLine line.now desk.old desk.new (account W.contents output.old) (account W.contents output.new)) }
 {
     let Ok(text) = str::from_utf8(line) else {
-        return Ok(Became::Wrong(Wrong::Wish(WishFault::Word)));
+        return Ok(LineBecame::Wrong(Wrong::Wish(WishFault::Word)));
     };
     match wish_in(desk.alloc, text) {
         Ok(wish) => {
             if desk.wish(rt, output, wish)? {
-                return Ok(Became::Done);
+                return Ok(LineBecame::Done);
             }
-            Ok(Became::Wrong(Wrong::Script(ScriptFault::OutOfPlace)))
+            Ok(LineBecame::Wrong(Wrong::Script(ScriptFault::OutOfPlace)))
         }
         Err(WishFault::OutOfMemory) => Err(ConnectFault::Memory),
-        Err(fault) => Ok(Became::Wrong(Wrong::Wish(fault))),
+        Err(fault) => Ok(LineBecame::Wrong(Wrong::Wish(fault))),
     }
 }
 
 // Asks the last Write again, and tells what became of it, where it was accepted.
 fn do_again<W: Write, T: Files<File = File> + Sockets + Wait + Clock>(
     rt: &T,
-    desk: &mut Desk,
+    desk: &mut PersonDesk,
     output: &mut Output<W>,
 ) -> Result<(), ConnectFault>
     ensures { OnOk result (AsksOnceMore desk.old desk.new (account W.contents output.old) (account W.contents output.new)) }
@@ -166,17 +166,17 @@ fn do_again<W: Write, T: Files<File = File> + Sockets + Wait + Clock>(
 // Does a line that is no word that is said of the lines themselves: it waits, or does a wish.
 fn do_other<W: Write, T: Files<File = File> + Sockets + Wait + Clock>(
     rt: &T,
-    desk: &mut Desk,
+    desk: &mut PersonDesk,
     output: &mut Output<W>,
     line: &[u8],
-) -> Result<Became, ConnectFault>
+) -> Result<LineBecame, ConnectFault>
     ensures { IfOk result (DoesOther line.now desk.old desk.new (account W.contents output.old) (account W.contents output.new)) }
 {
     match seconds_in(line) {
         None => do_wish(rt, desk, output, line),
         Some(seconds) => {
             desk.wait_for_finals(rt, output, seconds)?;
-            Ok(Became::Done)
+            Ok(LineBecame::Done)
         }
     }
 }
@@ -184,22 +184,22 @@ fn do_other<W: Write, T: Files<File = File> + Sockets + Wait + Clock>(
 // Does a short line, and tells what became of it.
 fn do_short_line<W: Write, T: Files<File = File> + Sockets + Wait + Clock>(
     rt: &T,
-    desk: &mut Desk,
+    desk: &mut PersonDesk,
     output: &mut Output<W>,
     line: &[u8],
-) -> Result<Became, ConnectFault>
+) -> Result<LineBecame, ConnectFault>
     ensures spoken { DoesSpoken (spoken_of line.now) result desk.old desk.new (account W.contents output.old) (account W.contents output.new) }
     ensures does { IfOk result (DoesShort line.now desk.old desk.new (account W.contents output.old) (account W.contents output.new)) }
 {
     match spoken_in(line) {
         None => return do_other(rt, desk, output, line),
-        Some(Spoken::Again) => do_again(rt, desk, output)?,
-        Some(Spoken::Help) => print(output, HELP)?,
-        Some(Spoken::Mine) => desk.tell_finals(rt, output, telling_all(desk.is_json))?,
-        Some(Spoken::Wait) => desk.wait_for_finals(rt, output, WAIT_SECONDS)?,
-        Some(Spoken::Quit) => return Ok(Became::Quit),
+        Some(SpokenLine::Again) => do_again(rt, desk, output)?,
+        Some(SpokenLine::Help) => print(output, HELP)?,
+        Some(SpokenLine::Mine) => desk.tell_finals(rt, output, telling_all(desk.is_json))?,
+        Some(SpokenLine::Wait) => desk.wait_for_finals(rt, output, WAIT_SECONDS)?,
+        Some(SpokenLine::Quit) => return Ok(LineBecame::Quit),
     }
-    Ok(Became::Done)
+    Ok(LineBecame::Done)
 }
 
 // Whether the line begins as a script's does.
@@ -215,15 +215,15 @@ fn begins_as_script(words: &[u8]) -> bool
 /// Does a line, and tells what became of it.
 pub(crate) fn do_line<W: Write, T: Files<File = File> + Sockets + Wait + Clock>(
     rt: &T,
-    desk: &mut Desk,
+    desk: &mut PersonDesk,
     output: &mut Output<W>,
     line: &[u8],
-) -> Result<Became, ConnectFault>
+) -> Result<LineBecame, ConnectFault>
     ensures { (words : List ℕ) × IsTrimAscii line.now words × DoesLine line.now words result desk.old desk.new (account W.contents output.old) (account W.contents output.new) }
 {
     let words = line.trim_ascii();
     if words.is_empty() {
-        return Ok(Became::Done);
+        return Ok(LineBecame::Done);
     }
     if begins_as_script(words) {
         return do_script_line(rt, desk, output, line);

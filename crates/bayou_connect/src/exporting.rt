@@ -5,12 +5,12 @@ ghost use Rattle.bayou_connect.specs.Listing.{AreListed};
 ghost use Rattle.bayou_connect.specs.declared.exporting.NotTaken.TheVariants.{Changed as WasChanged};
 
 use crate::connecting::{desk_of, drawn_run, first_number, found_in, greeter_of, tell_strangers};
-use crate::desk::{Desk, OWN};
+use crate::desk::{OWN, PersonDesk};
 use crate::fault::ConnectFault;
-use crate::listing::Rows;
-use crate::plan::{NONE, Plan};
+use crate::listing::ListedRows;
+use crate::plan::{NONE, SessionPlan};
 use crate::store::Store;
-use crate::told::Told;
+use crate::told::ServerTold;
 use bayou_base::{Key, Prefix, ServerId, Value, Vector};
 use bayou_greeting::StoreKey;
 use bayou_net::Sockets;
@@ -24,7 +24,7 @@ use thiserror::Error;
 
 /// The rows of a server's database, in the order of keys.
 #[derive(Drop)]
-pub struct Taken {
+pub struct ExportedRows {
     pub server: ServerId,
     /// What the server held that has them.
     pub vector: Vector,
@@ -44,21 +44,21 @@ pub enum NotTaken {
 }
 
 // Why no rows were taken, by this answer.
-fn untaken(told: &Told) -> NotTaken
+fn untaken(told: &ServerTold) -> NotTaken
     ensures { result ≡ untaken_as told.now }
 {
     match told {
-        Told::Away => NotTaken::Away,
+        ServerTold::Away => NotTaken::Away,
         _ => NotTaken::Untold,
     }
 }
 
 // The rows that this server told, if they are of one database.
-fn taken_of(server: ServerId, rows: Rows) -> Result<Taken, NotTaken>
+fn taken_of(server: ServerId, rows: ListedRows) -> Result<ExportedRows, NotTaken>
     ensures mixed { rows.is_mixed ≡ true → result ≡ Err WasChanged }
     ensures one { rows.is_mixed ≡ false → IfOk result (IsTakenOf server rows) }
 {
-    let Rows {
+    let ListedRows {
         each,
         vector,
         is_mixed,
@@ -66,20 +66,20 @@ fn taken_of(server: ServerId, rows: Rows) -> Result<Taken, NotTaken>
     if is_mixed {
         return Err(NotTaken::Changed);
     }
-    Ok(Taken {
+    Ok(ExportedRows {
         server,
         vector,
         rows: each,
     })
 }
 
-impl Desk {
+impl PersonDesk {
     /// The rows whose keys begin so, of one database of one server, in order; or why none are taken.
     fn take<T: Files<File = File> + Sockets + Wait + Clock>(
         &mut self,
         rt: &T,
         prefix: &Prefix,
-    ) -> Result<Result<Taken, NotTaken>, ConnectFault>
+    ) -> Result<Result<ExportedRows, NotTaken>, ConnectFault>
         ensures { IfOk result (λ told. IfOk told (λ taken. AreListed prefix.now taken.rows.items)) }
     {
         match self.rows_of(rt, OWN, prefix)? {
@@ -97,11 +97,11 @@ impl Desk {
 pub fn take_plan<E, T>(
     rt: &T,
     alloc: Global,
-    plan: &Plan,
+    plan: &SessionPlan,
     key: Option<StoreKey>,
     prefix: &Prefix,
     errors: &mut E,
-) -> Result<Result<Taken, NotTaken>, ConnectFault>
+) -> Result<Result<ExportedRows, NotTaken>, ConnectFault>
 where
     E: Write,
     T: Files<File = File> + Sockets + Wait + Clock + RandomSource,

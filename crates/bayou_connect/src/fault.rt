@@ -1,4 +1,4 @@
-use crate::lines::LineFault;
+use crate::lines::InputFault;
 use bayou_key_file::{LabelFault, StoreName};
 use bayou_print::RunFault;
 use std::alloc::{AllocError, AllocFailed};
@@ -126,16 +126,16 @@ impl From<LabelFault> for ConnectFault {
     }
 }
 
-impl From<LineFault> for ConnectFault {
+impl From<InputFault> for ConnectFault {
     ghost use Rattle.std.specs.Prelude.{◌≡◌};
     ghost use Rattle.bayou_connect.specs.Faults.{unread_as};
 
     ghost from_gives = { λ fault told. told ≡ unread_as fault };
 
-    fn from(fault: LineFault) -> ConnectFault {
+    fn from(fault: InputFault) -> ConnectFault {
         match fault {
-            LineFault::Input => ConnectFault::Input,
-            LineFault::OutOfMemory => ConnectFault::Memory,
+            InputFault::Input => ConnectFault::Input,
+            InputFault::OutOfMemory => ConnectFault::Memory,
         }
     }
 }

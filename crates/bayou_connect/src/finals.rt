@@ -9,7 +9,7 @@ ghost use Rattle.bayou_connect.specs.declared.finals.Telling.TheVariants.{News};
 ghost use Rattle.bayou_base.specs.declared.limits.TheConstants.{MAX_OWN_WRITES as MOST};
 ghost use Rattle.bayou_streams.specs.Account.{TakesBytes, account};
 
-use crate::desk::{Desk, Made, OWN, print};
+use crate::desk::{MadeWrite, OWN, PersonDesk, print};
 use crate::fault::ConnectFault;
 use crate::looking::Beyond;
 use crate::objects::{forgotten_object, own_object};
@@ -103,14 +103,14 @@ fn forgotten_text(alloc: Global, telling: Telling, wid: Wid) -> Result<String, A
     }
 }
 
-impl Desk {
+impl PersonDesk {
     /// Keeps an own Write that was accepted, with what was reported of it, where it is kept what is final. The oldest goes where there are as many as may be,
     /// which is reported.
     pub(crate) fn keep_own<W: Write, T: Files<File = File> + Clock>(
         &mut self,
         rt: &T,
         output: &mut Output<W>,
-        made: Made,
+        made: MadeWrite,
         placed: &Option<Placed>,
     ) -> Result<(), ConnectFault>
         ensures kept { OnOk result (KeepsOwn (outlook_of self.old.store.views) (own_write made placed.now) (outlook_of self.new.store.views) (account W.contents output.old) (account W.contents output.new)) }

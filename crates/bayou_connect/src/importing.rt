@@ -7,8 +7,8 @@ ghost use Rattle.bayou_connect.specs.Importing.{AsksToPut, IsBegunAt, Puts, Take
 use crate::connecting::greeter_of;
 use crate::desk::OWN;
 use crate::fault::ConnectFault;
-use crate::plan::{NONE, Place};
-use crate::putting_told::Progress;
+use crate::plan::{NONE, ServerPlace};
+use crate::putting_told::PutProgress;
 use crate::reach::{Access, Greeter, Purpose};
 use bayou_base::limits::ROUND_MILLISECONDS;
 use bayou_base::{Accepted, Key, MAX_OPS, MAX_WRITES, Refusal, Value, Vector};
@@ -27,7 +27,7 @@ use std::time::{Clock, Duration};
 /// Where rows are put, and under which run.
 #[derive(Clone, Copy, Debug)]
 pub struct Target {
-    pub place: Place,
+    pub place: ServerPlace,
     /// How often a server that is away, or whose reply was lost, is asked once more, each time after a rest.
     pub rounds: u64,
     /// How long it has for its connection and its whole reply.
@@ -163,7 +163,7 @@ impl<'a, T: Sockets + Wait + Clock> Putting<'a, T> {
     fn put_all<E: Write>(
         &mut self,
         rows: &[(Key, Value)],
-        progress: &mut Progress,
+        progress: &mut PutProgress,
         errors: &mut E,
     ) -> Result<Put, ConnectFault>
         ensures { IfOk result (λ put. put.stopped ≡ None → TakesWrites (length rows.now) put.writes) }
@@ -229,7 +229,7 @@ where
         access: Access::new(target.place),
         greeter: greeter_of(rt, alloc, key)?,
     };
-    let mut progress = Progress::new(rt, is_terminal, rows.len());
+    let mut progress = PutProgress::new(rt, is_terminal, rows.len());
     let put = putting.put_all(rows, &mut progress, errors);
     progress.clear(errors);
     putting.tell_stranger(errors)?;

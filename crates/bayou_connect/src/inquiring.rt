@@ -6,7 +6,7 @@ ghost use Rattle.bayou_connect.specs.Operating.{recovery_told};
 ghost use Rattle.bayou_connect.specs.Wishing.{DumpServers, Dumps, DumpsServer, TellServers, TellsServer, TellsSession, server_told, servers_at};
 ghost use Rattle.bayou_streams.specs.Account.{account};
 
-use crate::desk::{Desk, OWN, print};
+use crate::desk::{OWN, PersonDesk, print};
 use crate::fault::ConnectFault;
 use crate::objects::server_object;
 use crate::saying::asks_line;
@@ -33,7 +33,7 @@ fn recovery_of(server: ServerId, told: Result<Option<Wid>, LinkFault>) -> Option
     }
 }
 
-impl Desk {
+impl PersonDesk {
     /// Has a server open its journal again. Whether it is one that is at hand.
     pub(crate) fn reopen<W: Write, T: Sockets + Clock>(
         &mut self,

@@ -3,7 +3,7 @@
 //! Callers see [`connect_plan`], which does the lines of an input as they come, until it ends: a script's own lines of sessions, reads, Writes and
 //! reopenings, each at just the server that it names, and short lines (`bayou_person`), each at one server after another until one of them
 //! serves it, or may have done it ([`in_rounds`]). What a session read and wrote is kept on a device (`bayou_remember`), where the
-//! [`Plan`] names one, before anything of it is printed; a Write is kept before it is sent. [`take_plan`] has the rows of one server's database, of no
+//! [`SessionPlan`] names one, before anything of it is printed; a Write is kept before it is sent. [`take_plan`] has the rows of one server's database, of no
 //! session that is kept; [`put_rows`] puts rows at one server, each Write under a name by which it acts once.
 //!
 //! Callers owe that one process has a state file at a time. It isn't promised that a server answers, that a file holds what was written to
@@ -44,13 +44,13 @@ mod trying;
 mod views_file;
 mod wishes;
 
-pub use connecting::{Ended, Input, Names, connect_plan};
+pub use connecting::{Input, LinesEnded, Names, connect_plan};
 pub use doing::Wrong;
-pub use exporting::{NotTaken, Taken, take_plan};
+pub use exporting::{ExportedRows, NotTaken, take_plan};
 pub use fault::ConnectFault;
 pub use importing::{NotPut, Put, Target, put_rows};
 pub use open_desk::{OpenDesk, SeenServer};
-pub use plan::{Place, Plan, PlanFault};
+pub use plan::{ServerPlace, SessionPlan, SessionPlanFault};
 pub use round::{ROUNDS_PER_SECOND, Ways, first_served, in_rounds};
 pub use seeing::{SeenRow, SeenRows};
-pub use told::Told;
+pub use told::ServerTold;

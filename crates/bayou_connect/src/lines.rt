@@ -8,7 +8,7 @@ use std::io::{ErrorKind, Read};
 
 /// The next line of an input.
 #[derive(Drop)]
-pub(crate) enum Next {
+pub(crate) enum NextLine {
     /// Its bytes, without its line feed.
     Line(Vec<u8>),
     /// A line that is longer than a line may be.
@@ -19,7 +19,7 @@ pub(crate) enum Next {
 
 /// Why no line came.
 #[derive(Clone, Copy, Debug, PartialEq, Eq)]
-pub(crate) enum LineFault {
+pub(crate) enum InputFault {
     /// The reader failed.
     Input,
     OutOfMemory,
@@ -27,7 +27,7 @@ pub(crate) enum LineFault {
 
 /// An input that is read as its lines are asked for.
 #[derive(Drop)]
-pub(crate) struct Lines<R> {
+pub(crate) struct InputLines<R> {
     reader: R,
     alloc: Global,
     piece: [u8; READ_BYTES],
@@ -39,14 +39,14 @@ pub(crate) struct Lines<R> {
     ghost within: { (from ≤ to) × (to ≤ PIECE) },
 }
 
-impl From<AllocError> for LineFault {
+impl From<AllocError> for InputFault {
     ghost use Rattle.std.specs.Prelude.{◌≡◌};
-    ghost use Rattle.bayou_connect.specs.declared.lines.LineFault.TheVariants.{OutOfMemory};
+    ghost use Rattle.bayou_connect.specs.declared.lines.InputFault.TheVariants.{OutOfMemory};
 
     ghost from_gives = { λ _ fault. fault ≡ OutOfMemory };
 
-    fn from(_refused: AllocError) -> LineFault {
-        LineFault::OutOfMemory
+    fn from(_refused: AllocError) -> InputFault {
+        InputFault::OutOfMemory
     }
 }
 
@@ -57,7 +57,7 @@ fn line_feed_in(bytes: &[u8]) -> Option<usize>
     bytes.iter().position(|byte| *byte == b'\n')
 }
 
-impl<R: Read> Lines<R> {
+impl<R: Read> InputLines<R> {
     ghost use Rattle.std.specs.Prelude.{◌+◌, ◌-◌, ◌<◌, ◌++◌, [], ℕ, List, IfOk, MatchBool, OnOk, false, length, take};
     ghost use Rattle.std.specs.Io.KnownBytes.{IsAtEnd, Keeps};
     ghost use Rattle.bayou_base.specs.declared.limits.TheConstants.{MAX_LINE_BYTES};
@@ -67,7 +67,7 @@ impl<R: Read> Lines<R> {
     pub(crate) fn new(alloc: Global, reader: R) -> Self
         ensures { left_in R.remaining result ≡ R.remaining reader }
     {
-        Lines {
+        InputLines {
             reader,
             alloc,
             piece: [0; READ_BYTES],
@@ -78,7 +78,7 @@ impl<R: Read> Lines<R> {
     }
 
     // Reads the next piece, where the last one was given. Whether there is one.
-    fn fill(&mut self) -> Result<bool, LineFault>
+    fn fill(&mut self) -> Result<bool, InputFault>
         requires given { self.old.to ≤ self.old.from }
         requires open { self.old.has_ended ≡ false }
         ensures same { OnOk result (Keeps (left_in R.remaining self.old) (left_in R.remaining self.new)) }
@@ -96,14 +96,14 @@ impl<R: Read> Lines<R> {
                     return Ok(true);
                 }
                 Err(error) if error.kind() == ErrorKind::Interrupted => {}
-                Err(_) => return Err(LineFault::Input),
+                Err(_) => return Err(InputFault::Input),
             }
         }
-        Err(LineFault::Input)
+        Err(InputFault::Input)
     }
 
     // Whether bytes are left to give.
-    fn has_more(&mut self) -> Result<bool, LineFault>
+    fn has_more(&mut self) -> Result<bool, InputFault>
         ensures same { OnOk result (Keeps (left_in R.remaining self.old) (left_in R.remaining self.new)) }
         ensures more { IfOk result (λ more. MatchBool more (self.new.from < self.new.to) (IsAtEnd (left_in R.remaining self.new))) }
     {
@@ -117,7 +117,7 @@ impl<R: Read> Lines<R> {
     }
 
     // Puts what of the line is in the piece after the line, as far as a line may be long and one byte more. Whether the line ended.
-    fn take_into(&mut self, line: &mut Vec<u8>) -> Result<bool, LineFault>
+    fn take_into(&mut self, line: &mut Vec<u8>) -> Result<bool, InputFault>
         requires { self.old.from < self.old.to }
         ensures { IfOk result (λ ended. (passed : List ℕ) × GivesPart (left_in R.remaining self.old) (left_in R.remaining self.new) passed ended
             × (line.new.items ≡ line.old.items ++ take (MAX_LINE_BYTES + 1 - length line.old.items) passed)) }
@@ -140,7 +140,7 @@ impl<R: Read> Lines<R> {
     }
 
     // Puts the next line after none, as far as a line may be long and one byte more. Whether there is one.
-    fn take_line(&mut self, line: &mut Vec<u8>) -> Result<bool, LineFault>
+    fn take_line(&mut self, line: &mut Vec<u8>) -> Result<bool, InputFault>
         requires { line.old.items ≡ [] }
         ensures { IfOk result (λ has_any. PutsLine (left_in R.remaining self.old) (left_in R.remaining self.new) line.new.items has_any) }
     {
@@ -154,20 +154,20 @@ impl<R: Read> Lines<R> {
                 return Ok(true);
             }
         }
-        Err(LineFault::Input)
+        Err(InputFault::Input)
     }
 
     /// The next line. Of one that is too long nothing is kept, and it is passed over to its end.
-    pub(crate) fn next_line(&mut self) -> Result<Next, LineFault>
+    pub(crate) fn next_line(&mut self) -> Result<NextLine, InputFault>
         ensures { IfOk result (TakesLine (left_in R.remaining self.old) (left_in R.remaining self.new)) }
     {
         let mut line = Vec::new(self.alloc);
         if !self.take_line(&mut line)? {
-            return Ok(Next::End);
+            return Ok(NextLine::End);
         }
         if line.len() > MAX_LINE_BYTES {
-            return Ok(Next::TooLong);
+            return Ok(NextLine::TooLong);
         }
-        Ok(Next::Line(line))
+        Ok(NextLine::Line(line))
     }
 }

@@ -7,13 +7,13 @@ ghost use Rattle.bayou_connect.specs.Listing.{AreListed, Lists, PrintsList, do_f
 ghost use Rattle.bayou_streams.specs.Account.{TakesBytes, account};
 
 use crate::anywhere::anywhere;
-use crate::asking::Attempt;
-use crate::desk::{Desk, print};
+use crate::asking::Requested;
+use crate::desk::{PersonDesk, print};
 use crate::fault::ConnectFault;
 use crate::looking::Beyond;
 use crate::objects::{lost_object, refused_object, row_object, rows_object};
 use crate::saying::told_line;
-use crate::told::Told;
+use crate::told::ServerTold;
 use bayou_base::{Key, MAX_OPS, MAX_WRITES, Prefix, Refusal, SessionId, Value, Vector};
 use bayou_final::Standing;
 use bayou_net::Sockets;
@@ -35,7 +35,7 @@ const MAX_PAGES: usize = MAX_WRITES as usize * MAX_OPS / ROWS_AT_ONCE + 1;
 
 /// What servers listed of rows.
 #[derive(Drop)]
-pub(crate) struct Rows {
+pub(crate) struct ListedRows {
     pub(crate) each: Vec<(Key, Value)>,
     /// What the server held that told the last of them.
     pub(crate) vector: Vector,
@@ -51,7 +51,7 @@ enum Paged {
     /// The next are of another database than those before.
     Changed,
     /// The next didn't come.
-    Untold(Told),
+    Untold(ServerTold),
 }
 
 // Whether the key comes after that one, if there is one.
@@ -115,12 +115,12 @@ fn add_rows(each: &mut Vec<(Key, Value)>, rows: &[(Key, Value)]) -> Result<(), A
     Ok(())
 }
 
-impl Rows {
+impl ListedRows {
     // None came yet.
     fn none(alloc: Global) -> Self
         ensures { result.each.items ≡ [] }
     {
-        Rows {
+        ListedRows {
             each: Vec::new(alloc),
             vector: Vector::zero(),
             is_mixed: false,
@@ -189,7 +189,7 @@ fn lost_text(is_json: bool) -> &'static str
     if is_json { lost_object() } else { LIST_LOST }
 }
 
-impl Desk {
+impl PersonDesk {
     // Asks for the rows after those that came, of the server that sent them: up to the last, or to one of another database, unless they may be
     // mixed.
     fn list_on<T: Files<File = File> + Sockets + Wait + Clock>(
@@ -199,7 +199,7 @@ impl Desk {
         prefix: &Prefix,
         first: Page,
         may_mix: bool,
-        rows: &mut Rows,
+        rows: &mut ListedRows,
     ) -> Result<Paged, ConnectFault>
         ensures same { IsSameSeat self.old self.new × (self.new.is_served ≡ self.old.is_served) }
         ensures listed { AreListed prefix.now rows.old.each.items → IfOk result (λ paged. AreListed prefix.now rows.new.each.items) }
@@ -208,13 +208,13 @@ impl Desk {
         let mut more = rows.add(prefix, first)?;
         for _ in 0..=MAX_PAGES {
             match more {
-                None => return Ok(Paged::Untold(Told::Lost)),
+                None => return Ok(Paged::Untold(ServerTold::Lost)),
                 Some(false) => return Ok(Paged::Whole),
                 Some(true) => {}
             }
-            let next = Attempt::List(asked(prefix, rows.vector, rows.last_key()));
+            let next = Requested::List(asked(prefix, rows.vector, rows.last_key()));
             let page = match self.store.ask_at(rt, who, at, next)? {
-                Told::Rows(page) => page,
+                ServerTold::Rows(page) => page,
                 told => return Ok(Paged::Untold(told)),
             };
             if page.vector != rows.vector {
@@ -225,7 +225,7 @@ impl Desk {
             }
             more = rows.add(prefix, page)?;
         }
-        Ok(Paged::Untold(Told::Lost))
+        Ok(Paged::Untold(ServerTold::Lost))
     }
 
     // The rows whose keys begin so, of one database, unless it is another again and again: then of several, each of which had what the session asks for;
@@ -235,16 +235,16 @@ impl Desk {
         rt: &T,
         who: SessionId,
         prefix: &Prefix,
-    ) -> Result<Result<Rows, Told>, ConnectFault>
+    ) -> Result<Result<ListedRows, ServerTold>, ConnectFault>
         ensures same { IsSameSeat self.old self.new × (self.new.is_served ≡ self.old.is_served) }
         ensures listed { IfOk result (λ told. IfOk told (λ rows. AreListed prefix.now rows.each.items)) }
     {
-        let mut rows = Rows::none(self.alloc);
+        let mut rows = ListedRows::none(self.alloc);
         for time in 0..=TIMES_ANEW {
             rows.begin_anew();
-            let attempt = Attempt::List(asked(prefix, rows.vector, None));
+            let attempt = Requested::List(asked(prefix, rows.vector, None));
             let told = anywhere(rt, &mut self.store, who, &attempt, self.first, self.rounds)?;
-            let Told::Rows(first) = told else {
+            let ServerTold::Rows(first) = told else {
                 return Ok(Err(told));
             };
             match self.list_on(rt, who, prefix, first, time == TIMES_ANEW, &mut rows)? {
@@ -253,14 +253,14 @@ impl Desk {
                 Paged::Untold(told) => return Ok(Err(told)),
             }
         }
-        Ok(Err(Told::Lost))
+        Ok(Err(ServerTold::Lost))
     }
 
     // Which keys may change yet where these rows came from, as far as that is known.
     pub(crate) fn beyond<T: Sockets + Clock>(
         &mut self,
         rt: &T,
-        rows: &Rows,
+        rows: &ListedRows,
     ) -> Result<Option<Beyond>, ConnectFault>
         ensures none { keeps_finals (outlook_of self.old.store.views) ≡ false → (result ≡ Ok None) × (self.new ≡ self.old) }
         ensures same { IsSameDesk self.old self.new × (self.new.is_served ≡ self.old.is_served) }
@@ -313,7 +313,13 @@ impl Desk {
         if self.is_json {
             return refused_object(self.alloc, self.servers, who, &refusal);
         }
-        told_line(self.alloc, self.servers, who, &None, Told::Refused(refusal))
+        told_line(
+            self.alloc,
+            self.servers,
+            who,
+            &None,
+            ServerTold::Refused(refusal),
+        )
     }
 
     // Prints the rows, with how each value stands where that is known, and after them how many there are and what was held.
@@ -321,13 +327,13 @@ impl Desk {
         &mut self,
         output: &mut Output<W>,
         prefix: Option<&Key>,
-        rows: Rows,
+        rows: ListedRows,
         beyond: &Option<Beyond>,
     ) -> Result<(), ConnectFault>
         ensures printed { OnOk result (PrintsList self.old.is_json (keeps_finals (outlook_of self.old.store.views)) self.old.servers (option_copied prefix.entry) beyond.now rows (account W.contents output.old) (account W.contents output.new)) }
         ensures same { self.new ≡ self.old }
     {
-        let Rows {
+        let ListedRows {
             each,
             vector,
             is_mixed,
@@ -357,7 +363,7 @@ impl Desk {
                 let beyond = self.beyond(rt, &rows)?;
                 self.print_rows(output, prefix, rows, &beyond)
             }
-            Err(Told::Refused(refusal)) => {
+            Err(ServerTold::Refused(refusal)) => {
                 self.is_served = false;
                 let text = self.refused_text(who, refusal)?;
                 print(output, text.as_str())

@@ -11,12 +11,12 @@ ghost use Rattle.bayou_connect.specs.declared.finals.Telling.TheVariants.{News};
 ghost use Rattle.bayou_streams.specs.Account.{account};
 
 use crate::connecting::{
-    Ended, Names, ended_by, opened_desk, tell_full, tell_strangers, tell_wrong,
+    LinesEnded, Names, ended_by, opened_desk, tell_full, tell_strangers, tell_wrong,
 };
-use crate::desk::{Desk, OWN};
-use crate::doing::{Became, Wrong, do_line};
+use crate::desk::{OWN, PersonDesk};
+use crate::doing::{LineBecame, Wrong, do_line};
 use crate::fault::ConnectFault;
-use crate::plan::{Place, Plan};
+use crate::plan::{ServerPlace, SessionPlan};
 use crate::seeing::SeenRows;
 use bayou_base::Vector;
 use bayou_greeting::StoreKey;
@@ -34,14 +34,14 @@ use std::time::Clock;
 /// A server of the plan, and how many Writes it may hold, if it told that as it was greeted last.
 #[derive(Clone, Copy, Debug)]
 pub struct SeenServer {
-    pub place: Place,
+    pub place: ServerPlace,
     pub limit: Option<u32>,
 }
 
 /// A person's desk at a store, with the session of short lines. What is kept of it is kept as [`connect_plan`](crate::connect_plan) keeps it.
 #[derive(Drop)]
 pub struct OpenDesk {
-    desk: Desk,
+    desk: PersonDesk,
     /// What each server told that it holds, by its place in the plan, as it was asked last; none before that.
     views: Vec<Option<Vector>>,
     /// How many lines came. At the greatest count it stays.
@@ -51,10 +51,10 @@ pub struct OpenDesk {
 // Does a line, whatever was served before, and tells what became of it.
 fn do_alone<W: Write, T: Files<File = File> + Sockets + Wait + Clock>(
     rt: &T,
-    desk: &mut Desk,
+    desk: &mut PersonDesk,
     output: &mut Output<W>,
     line: &[u8],
-) -> Result<Became, ConnectFault>
+) -> Result<LineBecame, ConnectFault>
     ensures { IfOk result (DoesAlone line.now desk.old desk.new (account W.contents output.old) (account W.contents output.new)) }
 {
     desk.begin_anew();
@@ -62,12 +62,12 @@ fn do_alone<W: Write, T: Files<File = File> + Sockets + Wait + Clock>(
 }
 
 // What is wrong with the line, if it couldn't be done.
-fn wrong_in(became: Became) -> Option<Wrong>
+fn wrong_in(became: LineBecame) -> Option<Wrong>
     ensures { result ≡ wrong_of became }
 {
     match became {
-        Became::Wrong(wrong) => Some(wrong),
-        Became::Done | Became::Quit | Became::Ended => None,
+        LineBecame::Wrong(wrong) => Some(wrong),
+        LineBecame::Done | LineBecame::Quit | LineBecame::Ended => None,
     }
 }
 
@@ -78,7 +78,7 @@ impl OpenDesk {
     pub fn open<E, T>(
         rt: &T,
         alloc: Global,
-        plan: &Plan,
+        plan: &SessionPlan,
         key: Option<StoreKey>,
         names: Names<'_>,
         errors: &mut E,
@@ -107,7 +107,7 @@ impl OpenDesk {
         line: &[u8],
         output: &mut Output<W>,
         errors: &mut E,
-    ) -> Result<Ended, ConnectFault>
+    ) -> Result<LinesEnded, ConnectFault>
     where
         W: Write,
         E: Write,

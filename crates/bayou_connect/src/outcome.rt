@@ -7,10 +7,10 @@ ghost use Rattle.bayou_print.specs.Connected.{became_text};
 ghost use Rattle.bayou_streams.specs.Account.{TakesBytes, account};
 
 use crate::anywhere::anywhere;
-use crate::asking::Attempt;
-use crate::desk::{Desk, Made, print};
+use crate::asking::Requested;
+use crate::desk::{MadeWrite, PersonDesk, print};
 use crate::fault::ConnectFault;
-use crate::told::Told;
+use crate::told::ServerTold;
 use bayou_base::{SessionId, Wid};
 use bayou_net::Sockets;
 use bayou_print::became_line;
@@ -21,7 +21,7 @@ use std::io::Write;
 use std::sync::Wait;
 use std::time::Clock;
 
-impl Desk {
+impl PersonDesk {
     // Prints what became of a Write. One that changed nothing isn't what was asked for.
     fn print_placed<W: Write>(
         &mut self,
@@ -55,7 +55,7 @@ impl Desk {
         rt: &T,
         output: &mut Output<W>,
         who: SessionId,
-        made: Made,
+        made: MadeWrite,
     ) -> Result<Option<Placed>, ConnectFault>
         ensures told { IfOk result (TellsOutcome who made self.old self.new (account W.contents output.old) (account W.contents output.new)) }
         ensures same { IsSameDesk self.old self.new }
@@ -85,7 +85,7 @@ impl Desk {
         output: &mut Output<W>,
         who: SessionId,
         wid: Wid,
-        told: Told,
+        told: ServerTold,
     ) -> Result<(), ConnectFault>
         ensures printed { OnOk result (TakesBytes (account W.contents output.old) (account W.contents output.new) (fate_told self.old.servers who wid told)) }
         ensures served { self.new.is_served ≡ (self.old.is_served && is_fate_service told) }
@@ -93,13 +93,23 @@ impl Desk {
         ensures desk { IsSameDesk self.old self.new }
     {
         match told {
-            Told::Fate(fate) => self.print_placed(output, who, wid, &fate.placed),
-            Told::Seen(seen) => self.finish(output, who, &None, Told::Seen(seen)),
-            Told::Rows(page) => self.finish(output, who, &None, Told::Rows(page)),
-            Told::Accepted(accepted) => self.finish(output, who, &None, Told::Accepted(accepted)),
-            Told::Refused(refusal) => self.finish(output, who, &None, Told::Refused(refusal)),
-            Told::Away => self.finish(output, who, &None, Told::Away),
-            Told::Lost => self.finish(output, who, &None, Told::Lost),
+            ServerTold::Fate(fate) => self.print_placed(output, who, wid, &fate.placed),
+            ServerTold::Seen(seen) => self.finish(output, who, &None, ServerTold::Seen(seen)),
+            ServerTold::Rows(page) => self.finish(output, who, &None, ServerTold::Rows(page)),
+            ServerTold::Accepted(accepted) => self.finish(
+                output,
+                who,
+                &None,
+                ServerTold::Accepted(accepted),
+            ),
+            ServerTold::Refused(refusal) => self.finish(
+                output,
+                who,
+                &None,
+                ServerTold::Refused(refusal),
+            ),
+            ServerTold::Away => self.finish(output, who, &None, ServerTold::Away),
+            ServerTold::Lost => self.finish(output, who, &None, ServerTold::Lost),
         }
     }
 
@@ -114,7 +124,7 @@ impl Desk {
         ensures { OnOk result (TellsBecame who wid self.old self.new (account W.contents output.old) (account W.contents output.new)) }
     {
         let first = self.place_for(wid);
-        let attempt = Attempt::Became(wid);
+        let attempt = Requested::Became(wid);
         let told = anywhere(rt, &mut self.store, who, &attempt, first, self.rounds)?;
         self.print_told(output, who, wid, told)
     }

@@ -4,7 +4,7 @@ ghost use Rattle.std.specs.List.{AllZip, list_all};
 ghost use Rattle.std.specs.Option.{option_copied};
 ghost use Rattle.bayou_base.specs.declared.limits.TheConstants.{SERVERS as NUMBER};
 ghost use Rattle.bayou_base.specs.declared.server.ServerId.{ServerId as ServerNumber};
-ghost use Rattle.bayou_connect.specs.declared.plan.Place.{Place as Where};
+ghost use Rattle.bayou_connect.specs.declared.plan.ServerPlace.{ServerPlace as Where};
 ghost use Rattle.bayou_connect.specs.Plans.{AskedBy, AsksBoth, Differ, IsLeast, IsWrong, SaysPlace, asks_said, is_among, is_guarantee, parts_of};
 ghost use Rattle.bayou_person.specs.Wishes.{ReadsServer};
 
@@ -15,16 +15,16 @@ use thiserror::Error;
 
 /// A server of the store, and where it listens.
 #[derive(Clone, Copy, Debug)]
-pub struct Place {
+pub struct ServerPlace {
     pub id: ServerId,
     pub address: SocketAddr,
 }
 
 /// Which servers are asked, and what a session asks for that wasn't opened by a line.
 #[derive(Drop)]
-pub struct Plan {
+pub struct SessionPlan {
     /// In the order in which a short line tries them.
-    pub places: Vec<Place>,
+    pub places: Vec<ServerPlace>,
     /// How many counts of a vector are printed.
     pub servers: u8,
     /// Whether `list`, `servers` and `mine` print an object a line.
@@ -43,7 +43,7 @@ pub struct Plan {
 
 /// Why the words of a command line make no plan.
 #[derive(Clone, Copy, Debug, PartialEq, Eq, Error)]
-pub enum PlanFault {
+pub enum SessionPlanFault {
     #[error("--server takes I=ADDRESS:PORT, with an address of numbers, I being a server's number")]
     NoServer,
     #[error("--server names a server twice")]
@@ -56,14 +56,14 @@ pub enum PlanFault {
     OutOfMemory,
 }
 
-impl From<AllocError> for PlanFault {
+impl From<AllocError> for SessionPlanFault {
     ghost use Rattle.std.specs.Prelude.{◌≡◌};
-    ghost use Rattle.bayou_connect.specs.declared.plan.PlanFault.TheVariants.{OutOfMemory};
+    ghost use Rattle.bayou_connect.specs.declared.plan.SessionPlanFault.TheVariants.{OutOfMemory};
 
     ghost from_gives = { λ _ fault. fault ≡ OutOfMemory };
 
-    fn from(_error: AllocError) -> PlanFault {
-        PlanFault::OutOfMemory
+    fn from(_error: AllocError) -> SessionPlanFault {
+        SessionPlanFault::OutOfMemory
     }
 }
 
@@ -169,7 +169,7 @@ fn id_of(number: &str) -> Option<ServerId>
 }
 
 // The server that a word says, if it says one.
-fn place_of(word: &str) -> Option<Place>
+fn place_of(word: &str) -> Option<ServerPlace>
     ensures { MatchOption result ((place : Where) → ¬ (SaysPlace word.now place)) (SaysPlace word.now) }
 {
     let Some((number, address)) = word.split_once('=') else {
@@ -181,11 +181,11 @@ fn place_of(word: &str) -> Option<Place>
     let Ok(address) = address.parse::<SocketAddr>() else {
         return None;
     };
-    Some(Place { id, address })
+    Some(ServerPlace { id, address })
 }
 
 // Whether one of the places is that server's.
-fn has_place(places: &[Place], id: ServerId) -> bool
+fn has_place(places: &[ServerPlace], id: ServerId) -> bool
     ensures none { result ≡ false → All (λ place. place.id ≢ id) places.now }
     ensures some { result ≡ true → Any (λ place. place.id.index ≡ id.index) places.now }
 {
@@ -193,29 +193,29 @@ fn has_place(places: &[Place], id: ServerId) -> bool
 }
 
 // The servers that the words say, none of them twice.
-fn places_of(alloc: Global, words: &[&str]) -> Result<Vec<Place>, PlanFault>
+fn places_of(alloc: Global, words: &[&str]) -> Result<Vec<ServerPlace>, SessionPlanFault>
     ensures number { IfOk result (λ places. length places.items ≡ length words.now) }
     ensures said { IfOk result (λ places. AllZip (λ word place. SaysPlace word.now place) words.now places.items) }
     ensures once { IfOk result (λ places. AllPairs (λ one other. one.id ≢ other.id) places.items) }
     ensures refused { IfErr result (IsWrong (map (λ word. word.now) words.now) None None) }
 {
-    let mut places: Vec<Place> = Vec::new(alloc);
+    let mut places: Vec<ServerPlace> = Vec::new(alloc);
     for word in words {
         let Some(place) = place_of(word) else {
-            return Err(PlanFault::NoServer);
+            return Err(SessionPlanFault::NoServer);
         };
         if has_place(&places, place.id) {
-            return Err(PlanFault::SameServer);
+            return Err(SessionPlanFault::SameServer);
         }
         if places.push(place).is_err() {
-            return Err(PlanFault::OutOfMemory);
+            return Err(SessionPlanFault::OutOfMemory);
         }
     }
     Ok(places)
 }
 
 // How many servers there are at the least, where these are some of them.
-fn least_count(places: &[Place]) -> u8
+fn least_count(places: &[ServerPlace]) -> u8
     ensures within { result ≤ NUMBER }
     ensures least { IsLeast result places.now }
 {
@@ -227,7 +227,7 @@ fn least_count(places: &[Place]) -> u8
 }
 
 // Whether each of them is below the number.
-fn are_below(places: &[Place], servers: u8) -> bool
+fn are_below(places: &[ServerPlace], servers: u8) -> bool
     ensures all { result ≡ true → All (λ place. place.id.index < servers) places.now }
     ensures some { result ≡ false → Any (λ place. servers ≤ place.id.index) places.now }
 {
@@ -235,7 +235,7 @@ fn are_below(places: &[Place], servers: u8) -> bool
 }
 
 // How many servers there are: so many as are said, else as their numbers need.
-fn count_of(count: Option<u8>, places: &[Place]) -> u8
+fn count_of(count: Option<u8>, places: &[ServerPlace]) -> u8
     requires { IfSome count (λ count. count ≤ NUMBER) }
     ensures within { result ≤ NUMBER }
     ensures count { MatchOption count (IsLeast result places.now) (λ number. result ≡ number) }
@@ -247,20 +247,20 @@ fn count_of(count: Option<u8>, places: &[Place]) -> u8
 }
 
 // What a text asks for, where there is one.
-fn asks_if_said(text: Option<&str>) -> Result<Option<Asks>, PlanFault>
+fn asks_if_said(text: Option<&str>) -> Result<Option<Asks>, SessionPlanFault>
     ensures asks { IfOk result (AskedBy (option_copied text.entry)) }
-    ensures refused { IfErr result (λ fault. (fault ≡ PlanFault.NoAsks) × IsSomeAnd (option_copied text.entry) (λ text. asks_said text ≡ None)) }
+    ensures refused { IfErr result (λ fault. (fault ≡ SessionPlanFault.NoAsks) × IsSomeAnd (option_copied text.entry) (λ text. asks_said text ≡ None)) }
 {
     let Some(text) = text else {
         return Ok(None);
     };
     match asks_in(text) {
-        None => Err(PlanFault::NoAsks),
+        None => Err(SessionPlanFault::NoAsks),
         asks => Ok(asks),
     }
 }
 
-impl Plan {
+impl SessionPlan {
     /// The plan that these words make, or the first of them that can't be done: servers, in the order in which they are tried, and how
     /// many counts are printed, which is as many as their numbers need where it isn't said. No line prints an object.
     pub fn new(
@@ -270,7 +270,7 @@ impl Plan {
         asks: Option<&str>,
         wait_seconds: u32,
         timeout_seconds: u32,
-    ) -> Result<Plan, PlanFault>
+    ) -> Result<SessionPlan, SessionPlanFault>
         requires { IfSome count (λ count. count ≤ NUMBER) }
         ensures said { IfOk result (λ plan. AllZip (λ word place. SaysPlace word.now place) servers.now plan.places.items) }
         ensures same { IfOk result (λ plan. (plan.wait_seconds ≡ wait_seconds) × (plan.timeout_seconds ≡ timeout_seconds) × (length plan.places.items ≡ length servers.now)) }
@@ -281,14 +281,14 @@ impl Plan {
     {
         let places = places_of(alloc, servers)?;
         if places.is_empty() {
-            return Err(PlanFault::NoServer);
+            return Err(SessionPlanFault::NoServer);
         }
         let servers = count_of(count, &places);
         if !are_below(&places, servers) {
-            return Err(PlanFault::TooFewServers);
+            return Err(SessionPlanFault::TooFewServers);
         }
         let asks = asks_if_said(asks)?;
-        Ok(Plan {
+        Ok(SessionPlan {
             places,
             servers,
             is_json: false,
@@ -299,7 +299,7 @@ impl Plan {
     }
 
     /// The same plan, but that `list`, `servers` and `mine` print an object a line if `is_json`, and else lines as ever.
-    pub fn printing(self, is_json: bool) -> Plan
+    pub fn printing(self, is_json: bool) -> SessionPlan
         ensures { result ≡ record self { is_json = is_json } }
     {
         let mut plan = self;

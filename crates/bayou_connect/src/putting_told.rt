@@ -16,7 +16,7 @@ const CLEAR: &str = "\r\x1b[K";
 
 /// What is reported of how far rows are put.
 #[derive(Debug, Drop)]
-pub(crate) struct Progress {
+pub(crate) struct PutProgress {
     is_terminal: bool,
     /// How many rows there are.
     of: usize,
@@ -33,12 +33,12 @@ fn progress_line(alloc: Global, done: usize, of: usize) -> Result<String, AllocE
     format!(in alloc; "\rbayou: {done} of {of} keys")
 }
 
-impl Progress {
+impl PutProgress {
     /// Nothing is shown yet.
     pub(crate) fn new<T: Clock>(rt: &T, is_terminal: bool, of: usize) -> Self
         ensures { (result.is_terminal ≡ is_terminal) × (result.of ≡ of) }
     {
-        Progress {
+        PutProgress {
             is_terminal,
             of,
             next: milliseconds(rt).saturating_add(PERIOD_MILLISECONDS),

@@ -3,7 +3,7 @@ ghost use Rattle.bayou_connect.specs.Silence.{stream_for};
 ghost use Rattle.std.specs.Prelude.{◌≡◌, ◌+◌, ◌-◌, ◌^◌, ◌<◌, IfOk, IfSome, IsSome, None, Some, false, if◌then◌else◌, min, nat_le, nat_lt};
 
 use crate::deadline::{Deadline, milliseconds};
-use crate::plan::Place;
+use crate::plan::ServerPlace;
 use bayou_base::ServerId;
 use bayou_base::limits::SILENT_SECONDS;
 use bayou_client::Link;
@@ -114,7 +114,7 @@ pub(crate) type SocketLink<'a, T> = Link<Timed<'a, T>, Timed<'a, T>>;
 /// A server, with the connections to it that are open: over each it was greeted, if it knows greetings.
 #[derive(Drop)]
 pub(crate) struct Access {
-    pub(crate) place: Place,
+    pub(crate) place: ServerPlace,
     requests: Option<TcpStream>,
     lookups: Option<TcpStream>,
     /// What it told as it was greeted last.
@@ -144,7 +144,7 @@ fn is_quiet(stream: &TcpStream) -> bool {
 }
 
 // A connection to the server, if one comes about in so many milliseconds.
-fn stream_to<T: Sockets>(rt: &T, place: Place, left: u64) -> Option<TcpStream> {
+fn stream_to<T: Sockets>(rt: &T, place: ServerPlace, left: u64) -> Option<TcpStream> {
     let time = Duration::from_millis(left);
     let stream = TcpStream::connect_timeout(rt, &place.address, time).ok()?;
     // A socket that doesn't take this option sends small requests later.
@@ -177,7 +177,7 @@ enum Greeted {
 
 impl Access {
     /// Nothing is open yet.
-    pub(crate) fn new(place: Place) -> Self
+    pub(crate) fn new(place: ServerPlace) -> Self
         ensures { result.place ≡ place }
     {
         Access {

@@ -1,10 +1,10 @@
 //! One server after another is asked, until one of them serves it, or may have done it.
 ghost use Rattle.std.specs.Prelude.{◌≡◌, ◌<◌, ℕ, IfOk, cond, filter, not};
 ghost use Rattle.bayou_connect.specs.Round.{AsksInRounds, AsksInTurn, after_refusal, but_last, is_last, may_ask_another, turns};
-ghost use Rattle.bayou_connect.specs.declared.told.Told.{Told as Answer};
-ghost use Rattle.bayou_connect.specs.declared.told.Told.TheVariants.{Away};
+ghost use Rattle.bayou_connect.specs.declared.told.ServerTold.{ServerTold as Answer};
+ghost use Rattle.bayou_connect.specs.declared.told.ServerTold.TheVariants.{Away};
 
-use crate::told::Told;
+use crate::told::ServerTold;
 use bayou_base::Refusal;
 use bayou_base::limits::ROUND_MILLISECONDS;
 use std::alloc::{AllocError, Global};
@@ -23,29 +23,30 @@ pub trait Ways<Q> {
     ghost asks: { Q → Self → ℕ → Self → Answer → Type 0 };
 
     /// Asks the server of this number.
-    fn ask(&mut self, what: &Q, at: usize) -> Result<Told, Self::Fault>
+    fn ask(&mut self, what: &Q, at: usize) -> Result<ServerTold, Self::Fault>
         ensures { IfOk result (λ told. asks what.now self.old at self.new told) };
 }
 
 /// Whether another server may be asked: this one wasn't reached, or it refused, or it was asked for a read, which changes nothing. A Write is in
 /// doubt that was refused for a journal that failed, or whose reply was lost.
-pub(crate) fn may_go_on(is_read: bool, told: &Told) -> bool
+pub(crate) fn may_go_on(is_read: bool, told: &ServerTold) -> bool
     ensures { result ≡ may_ask_another is_read told.now }
 {
     match told {
-        Told::Away => true,
-        Told::Refused(Refusal::Journal) | Told::Lost => is_read,
-        Told::Refused(_) => true,
-        Told::Seen(_) | Told::Rows(_) | Told::Fate(_) | Told::Accepted(_) => false,
+        ServerTold::Away => true,
+        ServerTold::Refused(Refusal::Journal) | ServerTold::Lost => is_read,
+        ServerTold::Refused(_) => true,
+        ServerTold::Seen(_) | ServerTold::Rows(_) | ServerTold::Fate(_) | ServerTold::Accepted(_) =>
+            false,
     }
 }
 
 // What is reported where no server after these serves it: the last refusal or lost reply, or that all were away.
-fn newer(last: Told, told: Told) -> Told
+fn newer(last: ServerTold, told: ServerTold) -> ServerTold
     ensures { result ≡ after_refusal last told }
 {
     match told {
-        Told::Away => last,
+        ServerTold::Away => last,
         told => told,
     }
 }
@@ -57,10 +58,10 @@ pub fn first_served<Q, W: Ways<Q>>(
     what: &Q,
     order: &[usize],
     is_read: bool,
-) -> Result<Told, W::Fault>
+) -> Result<ServerTold, W::Fault>
     ensures { IfOk result (λ told. AsksInTurn (W.asks what.now) is_read order.now Away ways.old ways.new told) }
 {
-    let mut last = Told::Away;
+    let mut last = ServerTold::Away;
     for at in order {
         let told = ways.ask(what, *at)?;
         if !may_go_on(is_read, &told) {
@@ -79,7 +80,7 @@ pub fn in_rounds<Q, W: Ways<Q>, T: Wait + Clock>(
     order: &[usize],
     is_read: bool,
     more: u64,
-) -> Result<Told, W::Fault>
+) -> Result<ServerTold, W::Fault>
     ensures { IfOk result (λ told. AsksInRounds (W.asks what.now) is_read order.now more ways.old ways.new told) }
 {
     let mut told = first_served(ways, what, order, is_read)?;

@@ -2,30 +2,30 @@
 ghost use Rattle.std.specs.Prelude.{◌≡◌, ◌≤◌, ℕ, IfOk, MatchOption, Some, string_bytes};
 ghost use Rattle.bayou_base.specs.declared.limits.TheConstants.{SERVERS as NUMBER};
 ghost use Rattle.bayou_connect.specs.Printing.{IsAsksLine, nothing_text, told_text};
-ghost use Rattle.bayou_connect.specs.declared.told.Told.TheVariants.{Away};
+ghost use Rattle.bayou_connect.specs.declared.told.ServerTold.TheVariants.{Away};
 ghost use Rattle.bayou_print.specs.Printed.{last_text};
 
 use crate::plan::asks_text;
-use crate::told::Told;
+use crate::told::ServerTold;
 use bayou_answers::Answer;
 use bayou_base::{Asks, Key, SessionId};
 use bayou_print::{away_line, last_line};
 use std::alloc::{AllocError, Global};
 
 // What an operation is answered, unless no server was reached.
-fn answer_of(session: SessionId, key: &Option<Key>, told: Told) -> Option<Answer>
+fn answer_of(session: SessionId, key: &Option<Key>, told: ServerTold) -> Option<Answer>
     ensures { MatchOption result (told ≡ Away) (λ answer. (servers : ℕ) → told_text servers session key.now told ≡ last_text servers answer) }
 {
     match (told, key) {
-        (Told::Away, _) => None,
-        (Told::Seen(seen), Some(key)) => Some(Answer::Read {
+        (ServerTold::Away, _) => None,
+        (ServerTold::Seen(seen), Some(key)) => Some(Answer::Read {
             session,
             key: key.copy(),
             seen,
         }),
-        (Told::Accepted(accepted), _) => Some(Answer::Wrote { session, accepted }),
-        (Told::Refused(refusal), _) => Some(Answer::Refused { session, refusal }),
-        (Told::Seen(_) | Told::Rows(_) | Told::Fate(_) | Told::Lost, _) => {
+        (ServerTold::Accepted(accepted), _) => Some(Answer::Wrote { session, accepted }),
+        (ServerTold::Refused(refusal), _) => Some(Answer::Refused { session, refusal }),
+        (ServerTold::Seen(_) | ServerTold::Rows(_) | ServerTold::Fate(_) | ServerTold::Lost, _) => {
             Some(Answer::Lost { session })
         }
     }
@@ -37,7 +37,7 @@ pub(crate) fn told_line(
     servers: u8,
     session: SessionId,
     key: &Option<Key>,
-    told: Told,
+    told: ServerTold,
 ) -> Result<String, AllocError>
     requires { servers ≤ NUMBER }
     ensures { IfOk result (λ line. string_bytes line ≡ told_text servers session key.now told) }

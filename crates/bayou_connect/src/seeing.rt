@@ -5,11 +5,11 @@ ghost use Rattle.bayou_connect.specs.Finals.{keeps_finals, outlook_of};
 ghost use Rattle.bayou_connect.specs.Listing.{AreListed};
 ghost use Rattle.bayou_connect.specs.Seeing.{Sees, seen_row};
 
-use crate::desk::{Desk, OWN};
+use crate::desk::{OWN, PersonDesk};
 use crate::fault::ConnectFault;
-use crate::listing::{Rows, prefix_of};
+use crate::listing::{ListedRows, prefix_of};
 use crate::looking::Beyond;
-use crate::told::Told;
+use crate::told::ServerTold;
 use bayou_base::{Key, Prefix, ServerId, Value, Vector};
 use bayou_final::Standing;
 use bayou_net::Sockets;
@@ -40,7 +40,7 @@ pub struct SeenRows {
     pub rows: Vec<SeenRow>,
 }
 
-impl Desk {
+impl PersonDesk {
     // The rows, and how the value of each stands, where that is kept.
     fn seen_of(
         &self,
@@ -65,7 +65,7 @@ impl Desk {
         &mut self,
         rt: &T,
         prefix: &Prefix,
-    ) -> Result<Result<Rows, Told>, ConnectFault>
+    ) -> Result<Result<ListedRows, ServerTold>, ConnectFault>
         ensures same { IsSameSeat self.old self.new × (self.new.is_served ≡ self.old.is_served) }
         ensures listed { IfOk result (λ told. IfOk told (λ rows. AreListed prefix.now rows.each.items)) }
     {

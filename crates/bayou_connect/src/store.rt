@@ -9,15 +9,15 @@ ghost use Rattle.bayou_connect.specs.Keeping.{HasAsked};
 ghost use Rattle.bayou_connect.specs.Round.{turns_but_last};
 ghost use Rattle.bayou_connect.specs.Sessions.{IsOpened, kept_of, opened};
 
-use crate::asking::{Attempt, operate};
-use crate::audit_file::AuditFile;
+use crate::asking::{Requested, operate};
+use crate::audit_file::AuditWriter;
 use crate::deadline::milliseconds;
 use crate::fault::ConnectFault;
-use crate::plan::Place;
+use crate::plan::ServerPlace;
 use crate::reach::{Access, Greeter, Purpose};
 use crate::remembering::StateFile;
 use crate::round::{but_last, in_turn};
-use crate::told::Told;
+use crate::told::ServerTold;
 use crate::views_file::{ViewsFile, view_in};
 use bayou_base::{Asks, Entry, Key, Refusal, Seen, ServerId, SessionId, Vector, Wid};
 use bayou_client::{Asker, LinkFault};
@@ -39,7 +39,7 @@ pub(crate) struct Store {
     /// What each session is, by its number, where it was opened or kept.
     sessions: Vec<Option<Asker>>,
     state: Option<StateFile>,
-    book: Option<AuditFile>,
+    book: Option<AuditWriter>,
     /// What is known to be final, where that is kept.
     pub(crate) views: Option<ViewsFile>,
     /// What the server held that answered a session last, where that was a read.
@@ -57,7 +57,7 @@ pub(crate) struct Store {
 // Enters what was served or refused, where there is a book.
 fn enter(
     alloc: Global,
-    book: &mut Option<AuditFile>,
+    book: &mut Option<AuditWriter>,
     entry: &Option<Entry>,
 ) -> Result<(), ConnectFault>
     ensures none { book.old ≡ None → (result ≡ Ok tt) × (book.new ≡ None) }
@@ -81,7 +81,7 @@ pub(crate) fn answered<A>(told: Result<A, LinkFault>) -> Result<Option<A>, Conne
 }
 
 // A way to the server of each place.
-fn accesses_to(alloc: Global, places: &[Place]) -> Result<Vec<Access>, AllocError>
+fn accesses_to(alloc: Global, places: &[ServerPlace]) -> Result<Vec<Access>, AllocError>
     ensures { IfOk result (λ accesses. map (λ access. access.place) accesses.items ≡ places.now) }
 {
     let mut accesses = Vec::with_capacity(alloc, places.len())?;
@@ -109,10 +109,10 @@ impl Store {
     /// The servers at these places, with what is kept of each session, by its number.
     pub(crate) fn new(
         alloc: Global,
-        places: &[Place],
+        places: &[ServerPlace],
         sessions: Vec<Option<Asker>>,
         state: Option<StateFile>,
-        book: Option<AuditFile>,
+        book: Option<AuditWriter>,
         views: Option<ViewsFile>,
         timeout_seconds: u32,
         greeter: Greeter,
@@ -216,26 +216,26 @@ impl Store {
         rt: &T,
         who: SessionId,
         at: usize,
-        attempt: Attempt,
-    ) -> Result<Told, ConnectFault>
+        attempt: Requested,
+    ) -> Result<ServerTold, ConnectFault>
         ensures { IfOk result (λ told. HasAsked self.old.accesses.items at attempt self.old.sessions.items self.new.sessions.items self.new.state who.index told) }
     {
         self.shorten(rt)?;
         self.asked_last = at;
         let (alloc, purpose) = (self.alloc, attempt.purpose());
         let Some(access) = self.accesses.get_mut(at) else {
-            return Ok(Told::Away);
+            return Ok(ServerTold::Away);
         };
         let server = access.place.id;
         let time = self.timeout_seconds;
         let Some(mut link) = access.link(rt, &mut self.greeter, time, purpose) else {
-            return Ok(Told::Away);
+            return Ok(ServerTold::Away);
         };
         let Some(asker) = &mut self.sessions[usize::from(who.index)] else {
-            return Ok(Told::Lost);
+            return Ok(ServerTold::Lost);
         };
         if asker.session().left() == 0 {
-            return Ok(Told::Lost);
+            return Ok(ServerTold::Lost);
         }
         let done = operate(alloc, &mut self.state, asker, &mut link, server, attempt)?;
         access.settle(rt, &link);
@@ -250,8 +250,8 @@ impl Store {
         rt: &T,
         who: SessionId,
         at: usize,
-        attempt: Attempt,
-    ) -> Result<Told, ConnectFault>
+        attempt: Requested,
+    ) -> Result<ServerTold, ConnectFault>
         ensures { IfOk result (λ told. HasAsked self.old.accesses.items at attempt self.old.sessions.items self.new.sessions.items self.new.state who.index told) }
     {
         let told = self.attempt_at(rt, who, at, attempt)?;
@@ -260,16 +260,16 @@ impl Store {
     }
 
     // Notes what the server of this place in the list told of an operation.
-    fn note(&mut self, at: usize, told: &Told)
+    fn note(&mut self, at: usize, told: &ServerTold)
         ensures read { self.new.read_last ≡ vector_read told.now }
         ensures full { self.new.is_full ≡ (self.old.is_full || is_refused_as_full told.now) }
         ensures same { (self.new.sessions ≡ self.old.sessions) × (self.new.state ≡ self.old.state) × (self.new.book ≡ self.old.book) × (self.new.accesses ≡ self.old.accesses) }
     {
         self.read_last = match told {
-            Told::Seen(seen) => Some(seen.vector),
+            ServerTold::Seen(seen) => Some(seen.vector),
             _ => None,
         };
-        if let Told::Refused(Refusal::LogFull) = told {
+        if let ServerTold::Refused(Refusal::LogFull) = told {
             self.is_full = true;
         }
         if let Some(view) = view_in(told) {
@@ -370,7 +370,7 @@ impl Store {
     }
 
     /// Who answers in the place of the server of this place in the list, and where, if that wasn't reported yet.
-    pub(crate) fn news_at(&mut self, at: usize) -> Option<(Place, Stranger)>
+    pub(crate) fn news_at(&mut self, at: usize) -> Option<(ServerPlace, Stranger)>
         ensures news { IfSome result (λ news. IsSomeAnd (slice_get self.old.accesses.items at) (λ access. (access.is_news ≡ true) × (access.place ≡ news.0) × (access.stranger ≡ Some news.1))) }
         ensures same { (self.new.sessions ≡ self.old.sessions) × (self.new.state ≡ self.old.state) × (self.new.book ≡ self.old.book) }
     {

@@ -4,7 +4,7 @@ use bayou_wire::{Fate, Page};
 
 /// What became of an operation of a session at one server.
 #[derive(Debug, Drop)]
-pub enum Told {
+pub enum ServerTold {
     /// No connection came about: nothing was sent, and no place begun.
     Away,
     /// A read was served.

@@ -4,8 +4,8 @@ ghost use Rattle.bayou_connect.specs.Claiming.{MakesWrite, ReadsKey};
 ghost use Rattle.bayou_streams.specs.Account.{account};
 
 use crate::anywhere::anywhere;
-use crate::asking::Attempt;
-use crate::desk::{Desk, Made};
+use crate::asking::Requested;
+use crate::desk::{MadeWrite, PersonDesk};
 use crate::fault::ConnectFault;
 use bayou_base::{Key, SessionId};
 use bayou_lang::RestingProgram;
@@ -16,7 +16,7 @@ use std::io::Write;
 use std::sync::Wait;
 use std::time::Clock;
 
-impl Desk {
+impl PersonDesk {
     /// A session's read, at any server.
     pub(crate) fn get<W: Write, T: Files<File = File> + Sockets + Wait + Clock>(
         &mut self,
@@ -28,7 +28,7 @@ impl Desk {
         ensures read { OnOk result (ReadsKey who key self.old self.new (account W.contents output.old) (account W.contents output.new)) }
         ensures others { self.new ≡ record self.old { store = self.new.store; is_served = self.new.is_served } }
     {
-        let attempt = Attempt::Read(key.copy());
+        let attempt = Requested::Read(key.copy());
         let told = anywhere(rt, &mut self.store, who, &attempt, self.first, self.rounds)?;
         self.finish(output, who, &Some(key), told)
     }
@@ -40,11 +40,11 @@ impl Desk {
         output: &mut Output<W>,
         who: SessionId,
         program: RestingProgram,
-    ) -> Result<Option<Made>, ConnectFault>
+    ) -> Result<Option<MadeWrite>, ConnectFault>
         ensures written { IfOk result (MakesWrite who program self.old self.new (account W.contents output.old) (account W.contents output.new)) }
         ensures others { self.new ≡ record self.old { store = self.new.store; is_served = self.new.is_served } }
     {
-        let attempt = Attempt::Write(program);
+        let attempt = Requested::Write(program);
         let told = anywhere(rt, &mut self.store, who, &attempt, self.first, self.rounds)?;
         let made = self.made_by(&told);
         self.finish(output, who, &None, told)?;

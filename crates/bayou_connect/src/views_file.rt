@@ -6,7 +6,7 @@ ghost use Rattle.bayou_connect.specs.declared.fault.ConnectFault.TheVariants.{Vi
 ghost use Rattle.bayou_outlook.specs.declared.outlook.Outlook.{Outlook as Known};
 
 use crate::fault::ConnectFault;
-use crate::told::Told;
+use crate::told::ServerTold;
 use bayou_base::{Refusal, ServerId, Vector};
 use bayou_device::{Device, Failed, FileDevice};
 use bayou_final::Standing;
@@ -28,20 +28,20 @@ pub(crate) struct ViewsFile {
 }
 
 /// What a server held, by what it told of an operation, if it told that.
-pub(crate) fn view_in(told: &Told) -> Option<Vector>
+pub(crate) fn view_in(told: &ServerTold) -> Option<Vector>
     ensures { result ≡ view_told told.now }
 {
     match told {
-        Told::Seen(seen) => Some(seen.vector),
-        Told::Rows(page) => Some(page.vector),
-        Told::Fate(fate) => Some(fate.vector),
-        Told::Accepted(accepted) => {
+        ServerTold::Seen(seen) => Some(seen.vector),
+        ServerTold::Rows(page) => Some(page.vector),
+        ServerTold::Fate(fate) => Some(fate.vector),
+        ServerTold::Accepted(accepted) => {
             let mut view = accepted.deps;
             view.raise(accepted.wid);
             Some(view)
         }
-        Told::Refused(Refusal::Behind(vector)) => Some(*vector),
-        Told::Refused(_) | Told::Away | Told::Lost => None,
+        ServerTold::Refused(Refusal::Behind(vector)) => Some(*vector),
+        ServerTold::Refused(_) | ServerTold::Away | ServerTold::Lost => None,
     }
 }
 

@@ -7,7 +7,7 @@ ghost use Rattle.bayou_person.specs.Doing.{is_write};
 ghost use Rattle.bayou_streams.specs.Account.{account};
 
 use crate::claiming::Claim;
-use crate::desk::{Desk, OWN};
+use crate::desk::{OWN, PersonDesk};
 use crate::fault::ConnectFault;
 use bayou_base::{Key, ServerId};
 use bayou_lang::RestingProgram;
@@ -19,7 +19,7 @@ use std::io::Write;
 use std::sync::Wait;
 use std::time::Clock;
 
-impl Desk {
+impl PersonDesk {
     // Makes a Write of this program, and tells what became of it, where it was accepted.
     fn make_plainly<W: Write, T: Files<File = File> + Sockets + Wait + Clock>(
         &mut self,

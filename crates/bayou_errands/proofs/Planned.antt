@@ -7,18 +7,18 @@ use Rattle.bayou_command.specs.Connect.{Connection}
 use Rattle.bayou_command.specs.Renew.{Renewal as Asking}
 use Rattle.bayou_command.specs.Serve.{Service}
 use Rattle.bayou_connect.specs.Plans.{AskedBy, IsLeast, IsWrong, SaysPlace}
-use Rattle.bayou_connect.specs.declared.plan.Plan.{Plan as Places}
-use Rattle.bayou_connect.specs.declared.plan.PlanFault.{PlanFault as Wrong}
+use Rattle.bayou_connect.specs.declared.plan.SessionPlan.{SessionPlan as Places}
+use Rattle.bayou_connect.specs.declared.plan.SessionPlanFault.{SessionPlanFault as Wrong}
 use Rattle.bayou_renew.specs.Words.{Refuses as RefusesPlan, SaysPrefix, most_of}
-use Rattle.bayou_renew.specs.declared.plan.Plan.{Plan as Renewing}
-use Rattle.bayou_renew.specs.declared.plan.PlanFault.{PlanFault as Unfit}
-use Rattle.bayou_renew.specs.declared.plan.PlanFault.TheVariants as unfit
+use Rattle.bayou_renew.specs.declared.plan.RenewalPlan.{RenewalPlan as Renewing}
+use Rattle.bayou_renew.specs.declared.plan.RenewalPlanFault.{RenewalPlanFault as Unfit}
+use Rattle.bayou_renew.specs.declared.plan.RenewalPlanFault.TheVariants as unfit
 use Rattle.bayou_serve.specs.Beginnings.{beginning_of}
 use Rattle.bayou_serve.specs.Words.{Refuses, SaysListen, SaysPeer, SaysServer}
-use Rattle.bayou_serve.specs.declared.plan.Habits.{Habits}
-use Rattle.bayou_serve.specs.declared.plan.Plan.{Plan}
-use Rattle.bayou_serve.specs.declared.plan.PlanFault.{PlanFault}
-use Rattle.bayou_serve.specs.declared.plan.PlanFault.TheVariants.{NoServer, NoAddress, OpenToAnyone, NoPeer, SamePeer, TwoBeginnings, NoOther, NothingRestored, Unnamed, OutOfMemory}
+use Rattle.bayou_serve.specs.declared.plan.ServiceHabits.{ServiceHabits}
+use Rattle.bayou_serve.specs.declared.plan.ServicePlan.{ServicePlan}
+use Rattle.bayou_serve.specs.declared.plan.ServicePlanFault.{ServicePlanFault}
+use Rattle.bayou_serve.specs.declared.plan.ServicePlanFault.TheVariants.{NoServer, NoAddress, OpenToAnyone, NoPeer, SamePeer, TwoBeginnings, NoOther, NothingRestored, Unnamed, OutOfMemory}
 use Rattle.bayou_errands.specs.Plans.{IsPlanOf, IsPlanOfPlaces, RefusesConnection, RefusesService, RefusesWords}
 use Rattle.bayou_errands.specs.Renewals.{IsWishOf, RefusesRenewal}
 
@@ -30,7 +30,7 @@ zip_seen R (word ∷ words) [] all = absurd all
 zip_seen R (word ∷ words) (y ∷ ys) all = (all.0, zip_seen R words ys all.1)
 
 -- how long, how many and how it begins
-pub record AreHabitsOf (service : Service) (habits : Habits) : Type 0 where
+pub record AreHabitsOf (service : Service) (habits : ServiceHabits) : Type 0 where
   pub limit : habits.limit ≡ service.limit
   pub every : habits.every_seconds ≡ service.every_seconds
   pub connections : habits.connections ≡ service.connections
@@ -39,7 +39,7 @@ pub record AreHabitsOf (service : Service) (habits : Habits) : Type 0 where
   pub beginning : Some habits.beginning ≡ beginning_of service.is_new service.is_restored
 
 -- what refuses the words refuses what they ask for
-refused : (service : Service) (fault : PlanFault) → RefusesWords service fault → fault ≢ OutOfMemory → RefusesService service fault
+refused : (service : Service) (fault : ServicePlanFault) → RefusesWords service fault → fault ≢ OutOfMemory → RefusesService service fault
 refused service NoServer is known = is
 refused service NoAddress is known = is
 refused service OpenToAnyone is known = is
@@ -51,7 +51,7 @@ refused service NothingRestored is known = is
 refused service (Unnamed number) is known = is
 refused service OutOfMemory is known = absurd (known refl)
 
-pub plan_of : (service : Service) (words left_words : List (Bor (List ℕ))) (habits : Habits) (result kept : Result Plan PlanFault) → service.peers ≡ map (λ word. word.now) words
+pub plan_of : (service : Service) (words left_words : List (Bor (List ℕ))) (habits : ServiceHabits) (result kept : Result ServicePlan ServicePlanFault) → service.peers ≡ map (λ word. word.now) words
     → service.left_out ≡ map (λ word. word.now) left_words → AreHabitsOf service habits
     → IfOk result (λ plan. (plan.id.index ≡ service.id) × (plan.servers ≡ service.servers) × (plan.habits ≡ habits) × (length plan.peers.items ≡ length words))
     → IfOk result (λ plan. SaysListen service.listen service.serves_anyone plan.listen)
@@ -61,10 +61,10 @@ pub plan_of : (service : Service) (words left_words : List (Bor (List ℕ))) (ha
     → kept ≡ result → IfErr kept (λ fault. fault ≢ OutOfMemory)
     → MatchResult kept (IsPlanOf service) (RefusesService service)
 plan_of service words left_words habits result kept named left_named of same listens said left why is known =
-    subst (λ (r : Result Plan PlanFault). MatchResult r (IsPlanOf service) (RefusesService service)) (sym is)
-    (of_result result same listens said left why (subst (λ (r : Result Plan PlanFault). IfErr r (λ fault. fault ≢ OutOfMemory)) is known))
+    subst (λ (r : Result ServicePlan ServicePlanFault). MatchResult r (IsPlanOf service) (RefusesService service)) (sym is)
+    (of_result result same listens said left why (subst (λ (r : Result ServicePlan ServicePlanFault). IfErr r (λ fault. fault ≢ OutOfMemory)) is known))
   where
-    of_result : (result : Result Plan PlanFault)
+    of_result : (result : Result ServicePlan ServicePlanFault)
         → IfOk result (λ plan. (plan.id.index ≡ service.id) × (plan.servers ≡ service.servers) × (plan.habits ≡ habits) × (length plan.peers.items ≡ length words))
         → IfOk result (λ plan. SaysListen service.listen service.serves_anyone plan.listen)
         → IfOk result (λ plan. AllZip (λ word peer. SaysPeer word.now peer) words plan.peers.items)
@@ -77,12 +77,12 @@ plan_of service words left_words habits result kept named left_named of same lis
       listens = listens;
       peers = subst (λ (peers : List (List ℕ)). AllZip SaysPeer peers plan.peers.items) (sym named) (zip_seen SaysPeer words plan.peers.items said);
       left_out = subst (λ (servers : List (List ℕ)). AllZip SaysServer servers plan.left_out.items) (sym left_named) (zip_seen SaysServer left_words plan.left_out.items left);
-      limit = ap (λ (h : Habits). h.limit) same.2 ∙ of.limit;
-      every = ap (λ (h : Habits). h.every_seconds) same.2 ∙ of.every;
-      connections = ap (λ (h : Habits). h.connections) same.2 ∙ of.connections;
-      idle = ap (λ (h : Habits). h.idle_seconds) same.2 ∙ of.idle;
-      until = ap (λ (h : Habits). h.until_input_ends) same.2 ∙ of.until;
-      beginning = ap (λ (h : Habits). Some h.beginning) same.2 ∙ of.beginning;
+      limit = ap (λ (h : ServiceHabits). h.limit) same.2 ∙ of.limit;
+      every = ap (λ (h : ServiceHabits). h.every_seconds) same.2 ∙ of.every;
+      connections = ap (λ (h : ServiceHabits). h.connections) same.2 ∙ of.connections;
+      idle = ap (λ (h : ServiceHabits). h.idle_seconds) same.2 ∙ of.idle;
+      until = ap (λ (h : ServiceHabits). h.until_input_ends) same.2 ∙ of.until;
+      beginning = ap (λ (h : ServiceHabits). Some h.beginning) same.2 ∙ of.beginning;
     }
     of_result (Err fault) same listens said left why known =
         let words_refused : Refuses service.id service.servers service.listen service.serves_anyone service.peers service.left_out habits.beginning fault =

@@ -6,18 +6,18 @@ use Rattle.bayou_command.specs.Options.{standard}
 use Rattle.bayou_export.specs.Exports.{export_text}
 use Rattle.bayou_export.specs.Words.{IsPlanOf, Refuses}
 use Rattle.bayou_export.specs.declared.journal.Export.{Export}
-use Rattle.bayou_export.specs.declared.plan.Plan.{Plan}
-use Rattle.bayou_export.specs.declared.plan.PlanFault.{PlanFault}
+use Rattle.bayou_export.specs.declared.plan.ExportPlan.{ExportPlan}
+use Rattle.bayou_export.specs.declared.plan.ExportPlanFault.{ExportPlanFault}
 use Rattle.bayou_errands.specs.Plans.{IsPlanOfPlaces, RefusesConnection}
 use Rattle.bayou_errands.specs.declared.exported.Extract.{Extract}
 use Rattle.bayou_socket_run.specs.Damage.{journal_name}
 use Rattle.bayou_streams.specs.Account.{Account, TakesBytes}
 
 -- the plan is what the words ask for, or why they ask for none
-abbrev pub IsWanted : Asking → Plan → Type 0
+abbrev pub IsWanted : Asking → ExportPlan → Type 0
 IsWanted asked plan = IsPlanOf (length asked.servers) asked.count asked.key asked.folder asked.id asked.prefix plan
 
-abbrev pub RefusesExport : Asking → PlanFault → Type 0
+abbrev pub RefusesExport : Asking → ExportPlanFault → Type 0
 RefusesExport asked fault = Refuses (length asked.servers) asked.count asked.key asked.folder asked.id asked.prefix fault
 
 -- the folder and the number that the words say, where they do

@@ -5,7 +5,7 @@ use Rattle.bayou_command.specs.Options.{standard}
 use Rattle.bayou_command.specs.Web.{Web as Asking}
 use Rattle.bayou_errands.specs.Plans.{IsPlanOfPlaces, RefusesConnection}
 use Rattle.bayou_errands.specs.declared.shown.Window.{Window}
-use Rattle.bayou_web_serve.specs.declared.page.Page.{Page}
+use Rattle.bayou_web_serve.specs.declared.page.SitePage.{SitePage}
 
 -- who is met: as by a person who doesn't wait
 abbrev pub places_shown : Asking → Connection
@@ -24,7 +24,7 @@ places_shown asked = record {
 }
 
 -- the page is for who has this name
-abbrev pub IsNamed : Option (List ℕ) → Page → Type 0
+abbrev pub IsNamed : Option (List ℕ) → SitePage → Type 0
 IsNamed name page = option_map (λ text. string_bytes text) page.name ≡ name
 
 -- The page is the one that is asked for, with its state, at whom the words say, or what of them can't be done.

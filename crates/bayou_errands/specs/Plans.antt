@@ -6,21 +6,21 @@ use Rattle.bayou_command.specs.Connect.{Connection}
 use Rattle.bayou_command.specs.Options.{Input, file, standard}
 use Rattle.bayou_command.specs.Serve.{Service}
 use Rattle.bayou_connect.specs.Plans.{AskedBy, IsLeast, IsWrong, SaysPlace}
-use Rattle.bayou_connect.specs.declared.plan.Plan.{Plan as Places}
-use Rattle.bayou_connect.specs.declared.plan.PlanFault.{PlanFault as Wrong}
+use Rattle.bayou_connect.specs.declared.plan.SessionPlan.{SessionPlan as Places}
+use Rattle.bayou_connect.specs.declared.plan.SessionPlanFault.{SessionPlanFault as Wrong}
 use Rattle.bayou_serve.specs.Beginnings.{beginning_of}
 use Rattle.bayou_serve.specs.Words.{Refuses, SaysListen, SaysPeer, SaysServer}
-use Rattle.bayou_serve.specs.declared.plan.Plan.{Plan}
-use Rattle.bayou_serve.specs.declared.plan.PlanFault.{PlanFault}
+use Rattle.bayou_serve.specs.declared.plan.ServicePlan.{ServicePlan}
+use Rattle.bayou_serve.specs.declared.plan.ServicePlanFault.{ServicePlanFault}
 use Rattle.bayou_errands.specs.declared.connected.Call.{Call}
 use Rattle.bayou_errands.specs.declared.keyed.NewKey.{NewKey}
 use Rattle.bayou_errands.specs.declared.served.Service.{Service as Living}
 use Rattle.bayou_socket_run.specs.Damage.{journal_name}
-use Rattle.bayou_serve.specs.declared.plan.PlanFault.TheVariants.{NoServer, NoAddress, OpenToAnyone, NoPeer, SamePeer, TwoBeginnings, NoOther, NothingRestored, Unnamed, OutOfMemory}
+use Rattle.bayou_serve.specs.declared.plan.ServicePlanFault.TheVariants.{NoServer, NoAddress, OpenToAnyone, NoPeer, SamePeer, TwoBeginnings, NoOther, NothingRestored, Unnamed, OutOfMemory}
 use Rattle.bayou_serve.specs.declared.plan.Beginning.{Beginning}
 
 -- the plan is the server that the words ask for, and all that they say of it
-pub record IsPlanOf (service : Service) (plan : Plan) : Type 0 where
+pub record IsPlanOf (service : Service) (plan : ServicePlan) : Type 0 where
   pub id : plan.id.index ≡ service.id
   pub servers : plan.servers ≡ service.servers
   pub listens : SaysListen service.listen service.serves_anyone plan.listen
@@ -34,13 +34,13 @@ pub record IsPlanOf (service : Service) (plan : Plan) : Type 0 where
   pub beginning : Some plan.habits.beginning ≡ beginning_of service.is_new service.is_restored
 
 -- one of the words says what can't be done, by the way to begin that they ask for
-abbrev pub RefusesWords : Service → PlanFault → Type 0
+abbrev pub RefusesWords : Service → ServicePlanFault → Type 0
 RefusesWords service fault =
     (beginning : Beginning) × (Some beginning ≡ beginning_of service.is_new service.is_restored)
     × Refuses service.id service.servers service.listen service.serves_anyone service.peers service.left_out beginning fault
 
 -- why the words make no plan: they ask for two ways to begin, or else one of them says what can't be done
-abbrev pub RefusesService : Service → PlanFault → Type 0
+abbrev pub RefusesService : Service → ServicePlanFault → Type 0
 RefusesService service NoServer = RefusesWords service NoServer
 RefusesService service NoAddress = RefusesWords service NoAddress
 RefusesService service OpenToAnyone = RefusesWords service OpenToAnyone

@@ -2,7 +2,7 @@
 ghost use Rattle.std.specs.Prelude.{◌≡◌, ◌≢◌, ◌⊎◌, ℕ, IfErr, IfOk, List, MatchResult, None, Ok, Option, false, option_map, string_bytes, true};
 ghost use Rattle.bayou_command.specs.Connect.{connection_seen};
 ghost use Rattle.bayou_command.specs.Options.{input_seen};
-ghost use Rattle.bayou_connect.specs.declared.plan.PlanFault.TheVariants.{OutOfMemory};
+ghost use Rattle.bayou_connect.specs.declared.plan.SessionPlanFault.TheVariants.{OutOfMemory};
 ghost use Rattle.bayou_errands.specs.Plans.{IsPlanOfPlaces, RefusesConnection, input_name};
 ghost use Rattle.bayou_errands.specs.Told.{lines_status};
 ghost use Rattle.bayou_tasks.specs.Told.{told_text};
@@ -10,7 +10,9 @@ ghost use Rattle.bayou_tasks.specs.Told.{told_text};
 use crate::keyed::{key_fault_line, named_key};
 use crate::logging::{Logged, open_log};
 use bayou_command::{Connecting, Source};
-use bayou_connect::{ConnectFault, Ended, Input, Names, Plan, PlanFault, connect_plan};
+use bayou_connect::{
+    ConnectFault, Input, LinesEnded, Names, SessionPlan, SessionPlanFault, connect_plan,
+};
 use bayou_greeting::StoreKey;
 use bayou_net::Sockets;
 use bayou_streams::Output;
@@ -27,7 +29,7 @@ use std::{fs, io};
 /// What a person asked for by the words: whom to ask, or why the words make no plan, and the names of files.
 #[derive(Drop)]
 pub struct Call {
-    plan: Result<Plan, PlanFault>,
+    plan: Result<SessionPlan, SessionPlanFault>,
     key: Option<String>,
     state: Option<String>,
     book: Option<String>,
@@ -72,22 +74,22 @@ fn name_of<'a>(input: Source<'a>) -> Option<&'a str>
 
 /// The plan, or why there is none; but want of memory is reported at once.
 pub(crate) fn kept_plan(
-    plan: Result<Plan, PlanFault>,
-) -> Result<Result<Plan, PlanFault>, AllocError>
+    plan: Result<SessionPlan, SessionPlanFault>,
+) -> Result<Result<SessionPlan, SessionPlanFault>, AllocError>
     ensures same { IfOk result (λ kept. kept ≡ plan) }
     ensures known { IfOk result (λ kept. IfErr kept (λ fault. fault ≢ OutOfMemory)) }
 {
     match plan {
-        Err(PlanFault::OutOfMemory) => Err(AllocError),
+        Err(SessionPlanFault::OutOfMemory) => Err(AllocError),
         plan => Ok(plan),
     }
 }
 
 // Whom the words ask, and how rows are printed, or why they name nobody who can be asked.
-fn plan_in(alloc: Global, connecting: &Connecting<'_>) -> Result<Plan, PlanFault>
+fn plan_in(alloc: Global, connecting: &Connecting<'_>) -> Result<SessionPlan, SessionPlanFault>
     ensures { MatchResult result (IsPlanOfPlaces (connection_seen connecting.now)) (RefusesConnection (connection_seen connecting.now)) }
 {
-    let plan = Plan::new(
+    let plan = SessionPlan::new(
         alloc,
         connecting.servers.as_slice(),
         connecting.count,
@@ -149,20 +151,20 @@ fn fault_line(
 }
 
 // The exit status of lines that ended so.
-fn status_of(ended: Ended) -> u8
+fn status_of(ended: LinesEnded) -> u8
     ensures { result ≡ lines_status ended }
 {
     match ended {
-        Ended::Served => 0,
-        Ended::Unserved => UNSERVED,
-        Ended::Refused => REFUSED,
+        LinesEnded::Served => 0,
+        LinesEnded::Unserved => UNSERVED,
+        LinesEnded::Refused => REFUSED,
     }
 }
 
 /// Whom lines are for, and the files of a session: those that it is kept in, and the one that its lines are read from, if they come from a file.
 #[derive(Drop)]
 struct Sitting<'a> {
-    plan: &'a Plan,
+    plan: &'a SessionPlan,
     key: Option<StoreKey>,
     names: Names<'a>,
     lines: Option<&'a str>,
@@ -176,7 +178,7 @@ fn connect_on<I, W, E, T>(
     input: Input<I>,
     output: &mut Output<W>,
     errors: &mut E,
-) -> Result<Ended, ConnectFault>
+) -> Result<LinesEnded, ConnectFault>
 where
     I: Read + Drop,
     W: Write,
@@ -206,7 +208,7 @@ where
 /// How lines ended that were logged.
 #[derive(Drop)]
 struct Logging {
-    ended: Result<Ended, ConnectFault>,
+    ended: Result<LinesEnded, ConnectFault>,
     /// Whether a call of the log failed, so that a line may be missing there.
     has_failed: bool,
 }

@@ -14,8 +14,12 @@ use crate::connected::{kept_name, kept_plan};
 use crate::keyed::{key_fault_line, named_key};
 use bayou_base::{Prefix, SERVERS};
 use bayou_command::Exporting;
-use bayou_connect::{Plan as Places, PlanFault as PlacesFault, Taken, take_plan};
-use bayou_export::{Export, Plan, PlanFault, Whose, export_journal, told_counts, write_export};
+use bayou_connect::{
+    ExportedRows, SessionPlan as Places, SessionPlanFault as PlacesFault, take_plan,
+};
+use bayou_export::{
+    Export, ExportPlan, ExportPlanFault, Whose, export_journal, told_counts, write_export,
+};
 use bayou_net::Sockets;
 use bayou_print::RunFault;
 use bayou_renew::ReadingFault;
@@ -32,7 +36,7 @@ use std::time::Clock;
 /// The rows that are asked for by the words: of which journal, or of which servers, or why the words make no plan.
 #[derive(Drop)]
 pub struct Extract {
-    plan: Result<Plan, PlanFault>,
+    plan: Result<ExportPlan, ExportPlanFault>,
     /// The file of the journal, where one is read.
     path: String,
     /// Whom to ask, where servers are asked.
@@ -71,10 +75,10 @@ fn places_in(
 }
 
 // What the words ask for, but for whom.
-fn plan_in(exporting: &Exporting<'_>) -> Result<Plan, PlanFault>
+fn plan_in(exporting: &Exporting<'_>) -> Result<ExportPlan, ExportPlanFault>
     ensures { MatchResult result (IsWanted (export_seen exporting.now)) (RefusesExport (export_seen exporting.now)) }
 {
-    Plan::new(
+    ExportPlan::new(
         exporting.servers.as_slice().len(),
         exporting.count,
         exporting.key,
@@ -164,7 +168,7 @@ fn read_rows<E: Write, T: fs::Files<File = File>>(
 }
 
 // What a server told, as what is printed.
-fn export_of(taken: Taken) -> Export
+fn export_of(taken: ExportedRows) -> Export
     ensures { (result.server ≡ taken.server) × (result.vector ≡ taken.vector) × (result.rows ≡ taken.rows) }
 {
     Export {
@@ -213,7 +217,7 @@ where
 fn rows_found<E, T>(
     rt: &T,
     alloc: Global,
-    plan: &Plan,
+    plan: &ExportPlan,
     path: &str,
     places: &Result<Places, PlacesFault>,
     key: Option<&str>,

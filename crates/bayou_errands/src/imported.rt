@@ -11,12 +11,12 @@ use crate::keyed::{key_fault_line, named_key};
 use bayou_base::{Key, Value};
 use bayou_command::Importing;
 use bayou_connect::{
-    NotPut, Place, Plan as Places, PlanFault as PlacesFault, Put, ROUNDS_PER_SECOND, Target,
-    put_rows,
+    NotPut, Put, ROUNDS_PER_SECOND, ServerPlace, SessionPlan as Places,
+    SessionPlanFault as PlacesFault, Target, put_rows,
 };
 use bayou_device::FileDevice;
 use bayou_greeting::StoreKey;
-use bayou_import::{ReadFault, kept_run, mark_of, read_export};
+use bayou_import::{LinesFault, kept_run, mark_of, read_export};
 use bayou_net::Sockets;
 use bayou_print::write_text;
 use bayou_streams::Output;
@@ -155,7 +155,7 @@ fn rows_of(alloc: Global, path: &str, text: &str) -> Result<Vec<(Key, Value)>, S
 {
     match read_export(alloc, text) {
         Ok(rows) => Ok(rows),
-        Err(ReadFault::OutOfMemory) => Err(stop_for(alloc, None, "memory", FAILED)),
+        Err(LinesFault::OutOfMemory) => Err(stop_for(alloc, None, "memory", FAILED)),
         Err(fault) => Err(Stop {
             line: format!(in alloc; "bayou: {path}: {fault}; nothing was sent\n"),
             status: REFUSED,
@@ -180,7 +180,7 @@ fn run_of<T: fs::Files<File = File> + RandomSource>(
     alloc: Global,
     state: &str,
     text: &str,
-    place: Place,
+    place: ServerPlace,
 ) -> Result<(u32, FileDevice<File>), Stop>
     ensures run { IfOk result (λ kept. 0 < kept.0) }
     ensures status { IfErr result (λ stop. stop.status ≡ FAILED) }

@@ -1,7 +1,7 @@
 //! Servers whose store goes on as a new one, from the words to the exit status.
 ghost use Rattle.std.specs.Prelude.{◌≡◌, ◌≢◌, ◌⊎◌, ◌<◌, ℕ, IfErr, IfOk, IfSome, List, MatchResult, Option, Some, string_bytes, true};
 ghost use Rattle.bayou_command.specs.Renew.{renewal_seen};
-ghost use Rattle.bayou_renew.specs.declared.plan.PlanFault.TheVariants.{OutOfMemory};
+ghost use Rattle.bayou_renew.specs.declared.plan.RenewalPlanFault.TheVariants.{OutOfMemory};
 ghost use Rattle.bayou_errands.specs.Renewals.{IsWishOf, PrintsRenewed, RefusesRenewal, elsewhere_text, renewed_text, too_many_text};
 ghost use Rattle.bayou_tasks.specs.Told.{told_text};
 ghost use Rattle.bayou_socket_run.specs.Damage.{journal_name};
@@ -11,7 +11,8 @@ use bayou_base::Vector;
 use bayou_command::Renewing;
 use bayou_print::{Counts, write_text};
 use bayou_renew::{
-    NotRenewed, Paths, Plan, PlanFault, ReadingFault, RenewFault, Renewed, renew_journal,
+    NotRenewed, ReadingFault, RenewFault, RenewalPaths, RenewalPlan, RenewalPlanFault, Renewed,
+    renew_journal,
 };
 use bayou_streams::Output;
 use bayou_tasks::telling::{tell_line, told_line};
@@ -26,7 +27,7 @@ use std::random::RandomSource;
 pub struct Renewal {
     old: String,
     new: String,
-    plan: Result<Plan, PlanFault>,
+    plan: Result<RenewalPlan, RenewalPlanFault>,
 }
 
 /// The exit status of words that can't be done.
@@ -36,24 +37,29 @@ const REFUSED: u8 = 2;
 const FAILED: u8 = 3;
 
 // The plan, or why there is none; but want of memory is reported at once.
-fn kept_plan(plan: Result<Plan, PlanFault>) -> Result<Result<Plan, PlanFault>, AllocError>
+fn kept_plan(
+    plan: Result<RenewalPlan, RenewalPlanFault>,
+) -> Result<Result<RenewalPlan, RenewalPlanFault>, AllocError>
     ensures same { IfOk result (λ kept. kept ≡ plan) }
     ensures known { IfOk result (λ kept. IfErr kept (λ fault. fault ≢ OutOfMemory)) }
 {
     match plan {
-        Err(PlanFault::OutOfMemory) => Err(AllocError),
+        Err(RenewalPlanFault::OutOfMemory) => Err(AllocError),
         plan => Ok(plan),
     }
 }
 
 // Why the words make no plan, or the plan that they make.
-fn plan_in(alloc: Global, renewing: &Renewing<'_>) -> Result<Result<Plan, PlanFault>, AllocError>
+fn plan_in(
+    alloc: Global,
+    renewing: &Renewing<'_>,
+) -> Result<Result<RenewalPlan, RenewalPlanFault>, AllocError>
     ensures { IfOk result (λ plan. MatchResult plan (IsWishOf (renewal_seen renewing.now)) (RefusesRenewal (renewal_seen renewing.now))) }
 {
     if renewing.folder == renewing.to {
-        return Ok(Err(PlanFault::SameFolder));
+        return Ok(Err(RenewalPlanFault::SameFolder));
     }
-    let plan = Plan::new(
+    let plan = RenewalPlan::new(
         alloc,
         renewing.id,
         renewing.servers,
@@ -83,7 +89,7 @@ impl Renewal {
 }
 
 // The report of a server that holds this in the place of what it must hold.
-fn elsewhere_cause(alloc: Global, plan: &Plan, held: &Vector) -> Result<String, AllocError>
+fn elsewhere_cause(alloc: Global, plan: &RenewalPlan, held: &Vector) -> Result<String, AllocError>
     ensures { IfOk result (λ cause. string_bytes cause ≡ elsewhere_text plan.now held.now) }
 {
     let servers = plan.servers;
@@ -99,7 +105,7 @@ fn elsewhere_cause(alloc: Global, plan: &Plan, held: &Vector) -> Result<String, 
 }
 
 // The report of a database that takes so many Writes.
-fn too_many_cause(alloc: Global, plan: &Plan, number: usize) -> Result<String, AllocError>
+fn too_many_cause(alloc: Global, plan: &RenewalPlan, number: usize) -> Result<String, AllocError>
     ensures { IfOk result (λ cause. string_bytes cause ≡ too_many_text plan.now number) }
 {
     let most = plan.wish.most;
@@ -119,7 +125,7 @@ fn cause_line(alloc: Global, file: Option<&str>, cause: &str) -> Result<String, 
 fn old_line(
     alloc: Global,
     path: &str,
-    plan: &Plan,
+    plan: &RenewalPlan,
     fault: &RenewFault,
 ) -> Result<String, AllocError>
     ensures { IfOk result (λ line. (file : Option (List ℕ)) × (cause : List ℕ) × (string_bytes line ≡ told_text file cause)) }
@@ -146,8 +152,8 @@ fn old_line(
 // The line that tells why there is no new journal, with the file that is at fault.
 fn fault_line(
     alloc: Global,
-    paths: Paths<'_>,
-    plan: &Plan,
+    paths: RenewalPaths<'_>,
+    plan: &RenewalPlan,
     fault: &NotRenewed,
 ) -> Result<String, AllocError>
     ensures { IfOk result (λ line. (file : Option (List ℕ)) × (cause : List ℕ) × (string_bytes line ≡ told_text file cause)) }
@@ -165,7 +171,7 @@ fn fault_line(
 fn write_renewed<W: Write>(
     alloc: Global,
     output: &mut Output<W>,
-    plan: &Plan,
+    plan: &RenewalPlan,
     renewed: &Renewed,
     digits: &str,
 ) -> Result<bool, AllocError>
@@ -187,7 +193,7 @@ fn write_renewed<W: Write>(
 fn print_renewed<W: Write>(
     alloc: Global,
     output: &mut Output<W>,
-    plan: &Plan,
+    plan: &RenewalPlan,
     renewed: &Renewed,
 ) -> Result<bool, AllocError>
     ensures { IfOk result (λ is_printed. is_printed ≡ true → PrintsRenewed plan.now (account W.contents output.old) (account W.contents output.new)) }
@@ -239,7 +245,7 @@ where
         tell_line(&mut errors, told_line(alloc, None, "no random number"));
         return FAILED;
     };
-    let paths = Paths {
+    let paths = RenewalPaths {
         old: old.as_str(),
         new: new.as_str(),
     };

@@ -7,12 +7,15 @@ ghost use Rattle.bayou_errands.specs.Plans.{IsPlanOf, IsUnguarded, RefusesServic
 ghost use Rattle.bayou_tasks.specs.Told.{told_text};
 ghost use Rattle.bayou_socket_run.specs.Damage.{journal_name};
 ghost use Rattle.bayou_streams.specs.Account.{account};
-ghost use Rattle.bayou_serve.specs.declared.plan.PlanFault.TheVariants.{OutOfMemory, TwoBeginnings};
+ghost use Rattle.bayou_serve.specs.declared.plan.ServicePlanFault.TheVariants.{OutOfMemory, TwoBeginnings};
 
 use crate::keyed::{key_fault_line, named_key};
 use bayou_command::Serving;
 use bayou_net::Sockets;
-use bayou_serve::{Beginning, Habits, Paths, Plan, PlanFault, ServeFault, Teller, serve_plan};
+use bayou_serve::{
+    Beginning, ServeFault, ServiceHabits, ServicePaths, ServicePlan, ServicePlanFault, Teller,
+    serve_plan,
+};
 use bayou_streams::Output;
 use bayou_tasks::telling::told_line;
 use std::alloc::{AllocError, Global};
@@ -33,7 +36,7 @@ pub struct Service {
     key: Option<String>,
     /// Whether strangers may reach it, and nothing keeps them out.
     is_unguarded: bool,
-    plan: Result<Plan, PlanFault>,
+    plan: Result<ServicePlan, ServicePlanFault>,
 }
 
 /// The warning as a server begins that strangers may reach, and that nothing keeps out.
@@ -47,25 +50,30 @@ const REFUSED: u8 = 2;
 const FAILED: u8 = 3;
 
 // The plan, or why there is none; but want of memory is reported at once.
-fn kept_plan(plan: Result<Plan, PlanFault>) -> Result<Result<Plan, PlanFault>, AllocError>
+fn kept_plan(
+    plan: Result<ServicePlan, ServicePlanFault>,
+) -> Result<Result<ServicePlan, ServicePlanFault>, AllocError>
     ensures same { IfOk result (λ kept. kept ≡ plan) }
     ensures known { IfOk result (λ kept. IfErr kept (λ fault. fault ≢ OutOfMemory)) }
 {
     match plan {
-        Err(PlanFault::OutOfMemory) => Err(AllocError),
+        Err(ServicePlanFault::OutOfMemory) => Err(AllocError),
         plan => Ok(plan),
     }
 }
 
 // Why the words make no plan, or the plan that they make.
-fn plan_in(alloc: Global, serving: &Serving<'_>) -> Result<Result<Plan, PlanFault>, AllocError>
+fn plan_in(
+    alloc: Global,
+    serving: &Serving<'_>,
+) -> Result<Result<ServicePlan, ServicePlanFault>, AllocError>
     ensures asked { IfOk result (λ plan. MatchResult plan (IsPlanOf (service_seen serving.now)) (RefusesService (service_seen serving.now))) }
     ensures two { serving.now.is_new ≡ true → serving.now.is_restored ≡ true → IfOk result (λ plan. plan ≡ Err TwoBeginnings) }
 {
     let Some(beginning) = Beginning::of(serving.is_new, serving.is_restored) else {
-        return Ok(Err(PlanFault::TwoBeginnings));
+        return Ok(Err(ServicePlanFault::TwoBeginnings));
     };
-    let habits = Habits {
+    let habits = ServiceHabits {
         limit: serving.limit,
         every_seconds: serving.every_seconds,
         connections: serving.connections,
@@ -73,7 +81,7 @@ fn plan_in(alloc: Global, serving: &Serving<'_>) -> Result<Result<Plan, PlanFaul
         until_input_ends: serving.until_input_ends,
         beginning,
     };
-    let plan = Plan::new(
+    let plan = ServicePlan::new(
         alloc,
         serving.id,
         serving.servers,
@@ -179,7 +187,7 @@ where
     if is_unguarded {
         teller.tell(rt, UNGUARDED);
     }
-    let paths = Paths {
+    let paths = ServicePaths {
         journal: path.as_str(),
         label: label.as_str(),
     };

@@ -8,12 +8,12 @@ ghost use Rattle.bayou_tasks.specs.Told.{told_text};
 use crate::connected::{kept_name, kept_plan};
 use crate::keyed::{key_fault_line, named_key};
 use bayou_command::Showing;
-use bayou_connect::{Ended, Names, Plan, PlanFault};
+use bayou_connect::{LinesEnded, Names, SessionPlan, SessionPlanFault};
 use bayou_net::Sockets;
 use bayou_streams::Output;
 use bayou_tasks::telling::{tell_line, told_line};
 use bayou_web_live::{WebFault, serve_web};
-use bayou_web_serve::{Page, PageFault};
+use bayou_web_serve::{PageFault, SitePage};
 use std::alloc::{AllocError, Global};
 use std::fs;
 use std::fs::File;
@@ -26,8 +26,8 @@ use std::time::Clock;
 /// The page that is to be served by the words: at whom, where and for whom, or why the words make none.
 #[derive(Drop)]
 pub struct Window {
-    plan: Result<Plan, PlanFault>,
-    page: Result<Page, PageFault>,
+    plan: Result<SessionPlan, SessionPlanFault>,
+    page: Result<SitePage, PageFault>,
     key: Option<String>,
     state: String,
 }
@@ -39,10 +39,13 @@ const REFUSED: u8 = 2;
 const FAILED: u8 = 3;
 
 // Whom the words name, or why nobody can be asked; want of memory is reported at once.
-fn plan_in(alloc: Global, showing: &Showing<'_>) -> Result<Result<Plan, PlanFault>, AllocError>
+fn plan_in(
+    alloc: Global,
+    showing: &Showing<'_>,
+) -> Result<Result<SessionPlan, SessionPlanFault>, AllocError>
     ensures { IfOk result (λ plan. MatchResult plan (IsPlanOfPlaces (places_shown (web_seen showing.now))) (RefusesConnection (places_shown (web_seen showing.now)))) }
 {
-    let plan = Plan::new(
+    let plan = SessionPlan::new(
         alloc,
         showing.servers.as_slice(),
         showing.count,
@@ -55,10 +58,10 @@ fn plan_in(alloc: Global, showing: &Showing<'_>) -> Result<Result<Plan, PlanFaul
 }
 
 // Where the page is served and for whom, or why the words say no such thing; want of memory is reported at once.
-fn page_in(alloc: Global, showing: &Showing<'_>) -> Result<Result<Page, PageFault>, AllocError>
+fn page_in(alloc: Global, showing: &Showing<'_>) -> Result<Result<SitePage, PageFault>, AllocError>
     ensures { IfOk result (λ page. IfOk page (IsNamed (web_seen showing.now).name)) }
 {
-    match Page::new(alloc, showing.listen, showing.name) {
+    match SitePage::new(alloc, showing.listen, showing.name) {
         Err(PageFault::OutOfMemory) => Err(AllocError),
         page => Ok(page),
     }
@@ -141,8 +144,8 @@ where
         book: None,
     };
     match serve_web(rt, alloc, &plan, key, names, page, output, &mut errors) {
-        Ok(Ended::Served | Ended::Unserved) => 0,
-        Ok(Ended::Refused) => REFUSED,
+        Ok(LinesEnded::Served | LinesEnded::Unserved) => 0,
+        Ok(LinesEnded::Refused) => REFUSED,
         Err(fault) => {
             tell_line(&mut errors, fault_line(alloc, state.as_str(), fault));
             FAILED

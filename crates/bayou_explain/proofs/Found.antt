@@ -3,7 +3,7 @@ use Rattle.std.proofs.Common.{◌≡◌, ℕ, ◌+◌, ◌<◌, ◌≤◌, List,
 use Rattle.std.proofs.lemmas.List.{take_all, take_more}
 use Rattle.std.proofs.lemmas.List.Elements.{All-push}
 use Rattle.bayou_text.specs.Said.{Said, audit_said}
-use Rattle.bayou_explain.specs.declared.explained.Shown.{Shown}
+use Rattle.bayou_explain.specs.declared.explained.ShownLine.{ShownLine}
 use Rattle.bayou_explain.specs.declared.line.Located.{Located}
 use Rattle.bayou_explain.specs.Explained.{IsFound, IsOfLine}
 
@@ -14,7 +14,7 @@ pub all_more : {X : Type 0} (P : X → Type 0) (xs : List X) (k : ℕ) (x : X) �
 all_more P xs k x within is here all = subst (All P) (sym (take_more xs k x within ∙ ap (λ y. take k xs ++ y ∷ []) (sym is))) (All-push P (take k xs) x all here)
 
 -- the line that was come to tells it
-pub found_here : (lines : List Located) (k : ℕ) (line : Located) (Tells : Said → Type 0) (shown : Shown) → k < length lines → line ≡ get_or lines k line
+pub found_here : (lines : List Located) (k : ℕ) (line : Located) (Tells : Said → Type 0) (shown : ShownLine) → k < length lines → line ≡ get_or lines k line
     → Tells (audit_said line.told) → IsOfLine line shown → IsFound lines Tells (Some shown)
 found_here lines k line Tells shown within is tells of = (line, (k, within, sym is), tells, of)
 

@@ -6,13 +6,13 @@ use Rattle.bayou_judge.specs.Evidence.{IsGood, IsGoodAt}
 use Rattle.bayou_judge.specs.History.{dump_of}
 use Rattle.bayou_lang.specs.declared.write.Write.{Write}
 use Rattle.bayou_explain.specs.Misfit.{IsMisfit, IsMisfitAt}
-use Rattle.bayou_explain.specs.declared.misfit.Misfit.{Misfit}
+use Rattle.bayou_explain.specs.declared.misfit.DumpMisfit.{DumpMisfit}
 
 one_at : (xs : List Write) (at : ℕ) (x y : Write) → slice_get xs at ≡ Some x → slice_get xs at ≡ Some y → x ≡ y
 one_at xs at x y here there = cc
 
 -- what is found of the Write that stands there
-pub placed : (count : ℕ) (dumps : List (List Write)) (server at : ℕ) (write : Write) (found : Option Misfit) → slice_get (dump_of dumps server) at ≡ Some write
+pub placed : (count : ℕ) (dumps : List (List Write)) (server at : ℕ) (write : Write) (found : Option DumpMisfit) → slice_get (dump_of dumps server) at ≡ Some write
     → MatchOption found (IsGood count dumps server (take at (dump_of dumps server)) write) (IsMisfit count dumps server (take at (dump_of dumps server)) write)
     → MatchOption found (IsGoodAt count dumps server at) (IsMisfitAt count dumps server at)
 placed count dumps server at write None is good = λ other there.

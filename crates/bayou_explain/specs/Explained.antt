@@ -5,7 +5,7 @@ use Rattle.bayou_judge.specs.declared.every.SessionBreaches.{SessionBreaches}
 use Rattle.bayou_judge.specs.declared.verdict.Surveyed.{Surveyed}
 use Rattle.bayou_text.specs.Said.{Said, audit_said}
 use Rattle.bayou_explain.specs.declared.explained.Explained.{Explained}
-use Rattle.bayou_explain.specs.declared.explained.Shown.{Shown}
+use Rattle.bayou_explain.specs.declared.explained.ShownLine.{ShownLine}
 use Rattle.bayou_explain.specs.declared.line.Located.{Located}
 use Rattle.bayou_explain.specs.Located.{IsHeldBy, IsOperationAt}
 
@@ -34,11 +34,11 @@ abbrev pub breaches_told : List Explained → List Breach
 breaches_told list = map (λ explained. explained.breach) list
 
 -- this is the line
-abbrev pub IsOfLine : Located → Shown → Type 0
+abbrev pub IsOfLine : Located → ShownLine → Type 0
 IsOfLine line shown = (shown.at ≡ line.at) × (shown.bytes.now ≡ line.bytes.now)
 
 -- it is a line that tells this, or there is none
-abbrev pub IsFound : List Located → (Said → Type 0) → Option Shown → Type 0
+abbrev pub IsFound : List Located → (Said → Type 0) → Option ShownLine → Type 0
 IsFound lines Tells found = MatchOption found
     (All (λ line. ¬ Tells (audit_said line.told)) lines)
     (λ shown. (line : Located) × Contains lines line × Tells (audit_said line.told) × IsOfLine line shown)

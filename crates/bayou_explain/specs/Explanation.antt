@@ -7,7 +7,7 @@ use Rattle.bayou_judge.specs.declared.verdict.BadEvidence.TheVariants.{BadDump, 
 use Rattle.bayou_judge.specs.Evidence.{IsGoodAt}
 use Rattle.bayou_lang.specs.declared.write.Write.{Write}
 use Rattle.bayou_explain.specs.declared.line.Located.{Located}
-use Rattle.bayou_explain.specs.declared.misfit.Misfit.{Misfit}
+use Rattle.bayou_explain.specs.declared.misfit.DumpMisfit.{DumpMisfit}
 use Rattle.bayou_explain.specs.declared.refused.Forged.{Forged as Told}
 use Rattle.bayou_explain.specs.Located.{tells_entry}
 use Rattle.bayou_explain.specs.Misfit.{IsMisfitAt, misfit_line}
@@ -28,13 +28,13 @@ abbrev pub bad_dump_text : (server place : ℕ) → List ℕ
 bad_dump_text server place = codes "the Write at place " ++ (decimal place ++ (codes " of server " ++ (decimal server ++ codes "'s dump can't be there\n")))
 
 -- and the one that it ends with, if the Write fails a condition
-abbrev pub misfit_lines : Option Misfit → List ℕ
+abbrev pub misfit_lines : Option DumpMisfit → List ℕ
 misfit_lines None = []
 misfit_lines (Some misfit) = misfit_line misfit
 
 -- a text of the Write at this place of the server's dump: the condition that it fails, and none only where it fails none
 abbrev pub TellsDump : ℕ → List (List Write) → (server place : ℕ) → List ℕ → Type 0
-TellsDump count dumps server place text = (found : Option Misfit) × (lines : List ℕ) × MatchOption found (IsGoodAt count dumps server place) (IsMisfitAt count dumps server place)
+TellsDump count dumps server place text = (found : Option DumpMisfit) × (lines : List ℕ) × MatchOption found (IsGoodAt count dumps server place) (IsMisfitAt count dumps server place)
     × (text ≡ bad_dump_text server place ++ (lines ++ misfit_lines found))
 
 -- a text of the entry of this number, or none where there is no such entry

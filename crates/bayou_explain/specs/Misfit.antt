@@ -5,8 +5,8 @@ use Rattle.bayou_base.specs.declared.wid.Wid.{Wid}
 use Rattle.bayou_judge.specs.History.{dump_of}
 use Rattle.bayou_lang.specs.Writes.{count_of, covered_by, greatest_clock}
 use Rattle.bayou_lang.specs.declared.write.Write.{Write}
-use Rattle.bayou_explain.specs.declared.misfit.Misfit.{Misfit}
-use Rattle.bayou_explain.specs.declared.misfit.Misfit.TheVariants as misfit
+use Rattle.bayou_explain.specs.declared.misfit.DumpMisfit.{DumpMisfit}
+use Rattle.bayou_explain.specs.declared.misfit.DumpMisfit.TheVariants as misfit
 
 -- no Write of this name in the dump is another than this one
 abbrev pub AreSame : List Write → Write → Type 0
@@ -22,7 +22,7 @@ AreCounted before write server counted held = (server < SERVERS) × (counted ≡
 
 -- The condition that the Write fails after these, of so many servers: its origin is none of them; it isn't the next of its server's; it counts more of a server's
 -- Writes than there are; it doesn't count just those of its own server before it; or its clock isn't one more than the greatest that it counts.
-abbrev pub IsUnfit : ℕ → List Write → Write → Misfit → Type 0
+abbrev pub IsUnfit : ℕ → List Write → Write → DumpMisfit → Type 0
 IsUnfit count before write (misfit.Origin origin) = (origin ≡ write.wid.origin) × ¬ (origin.index < count)
 IsUnfit count before write (misfit.Number wid held) = (wid ≡ write.wid) × (held ≡ slice_index (count_of before) wid.origin.index) × (wid.seq ≢ held + 1)
 IsUnfit count before write (misfit.Counts server counted held) = AreCounted before write server counted held × (held < counted)
@@ -32,20 +32,20 @@ IsUnfit count before write (misfit.Clock found expected) =
 IsUnfit count before write other = ⊥
 
 -- it counts another number of a server's Writes than stand before it
-abbrev pub IsPast : List Write → Write → Misfit → Type 0
+abbrev pub IsPast : List Write → Write → DumpMisfit → Type 0
 IsPast before write (misfit.Past other counted held) = AreCounted before write other counted held × (counted ≢ held)
 IsPast before write other = ⊥
 
 -- The condition that it fails after these in this server's dump: one of those; it is the server's own, and doesn't count all that stand before it; or a smaller server
 -- has another Write of its name.
-abbrev pub IsMisfit : ℕ → List (List Write) → ℕ → List Write → Write → Misfit → Type 0
+abbrev pub IsMisfit : ℕ → List (List Write) → ℕ → List Write → Write → DumpMisfit → Type 0
 IsMisfit count dumps server before write (misfit.Past other counted held) =
     (write.wid.origin.index ≡ server) × IsPast before write (misfit.Past other counted held)
 IsMisfit count dumps server before write (misfit.Other other wid) = (other.index < server) × (wid ≡ write.wid) × HasOther (dump_of dumps other.index) write
 IsMisfit count dumps server before write found = IsUnfit count before write found
 
 -- the condition that the Write at this place of the server's dump fails
-abbrev pub IsMisfitAt : ℕ → List (List Write) → (server place : ℕ) → Misfit → Type 0
+abbrev pub IsMisfitAt : ℕ → List (List Write) → (server place : ℕ) → DumpMisfit → Type 0
 IsMisfitAt count dumps server place found = (write : Write) × (slice_get (dump_of dumps server) place ≡ Some write)
     × IsMisfit count dumps server (take place (dump_of dumps server)) write found
 
@@ -53,7 +53,7 @@ abbrev pub wid_text : Wid → List ℕ
 wid_text wid = decimal wid.origin.index ++ (codes ":" ++ decimal wid.seq)
 
 -- a condition, with what is found and what is expected
-abbrev pub misfit_line : Misfit → List ℕ
+abbrev pub misfit_line : DumpMisfit → List ℕ
 misfit_line (misfit.Origin origin) = codes "  its origin: found server " ++ (decimal origin.index ++ codes ", expected one of the file's\n")
 misfit_line (misfit.Number wid held) =
     codes "  its number: found " ++ (decimal wid.seq ++ (codes ", expected one more than the " ++ (decimal held ++ (codes " of server " ++ (decimal wid.origin.index ++ codes "'s before it\n")))))

@@ -3,7 +3,7 @@ ghost use Rattle.std.specs.Prelude.{◌≡◌, ◌≤◌, MatchOption, length};
 ghost use Rattle.std.specs.List.{filter};
 ghost use Rattle.bayou_explain.specs.Dumped.{IsHeldNumber, tells_held};
 
-use crate::explained::{Shown, shown_as};
+use crate::explained::{ShownLine, shown_as};
 use crate::line::Located;
 use bayou_base::ServerId;
 use bayou_text::AuditLine;
@@ -19,7 +19,7 @@ fn is_of(line: &Located<'_>, server: ServerId) -> bool
 }
 
 /// The line of the Write at this place, from 0 on, of the server's dump. It is `None` where the dump has fewer.
-pub fn held_at<'a>(lines: &[Located<'a>], server: ServerId, place: usize) -> Option<Shown<'a>>
+pub fn held_at<'a>(lines: &[Located<'a>], server: ServerId, place: usize) -> Option<ShownLine<'a>>
     ensures { MatchOption result (length (filter (tells_held server.index) lines.now) ≤ place) (IsHeldNumber lines.now server.index place) }
 {
     let mut seen = 0;

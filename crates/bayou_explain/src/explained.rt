@@ -10,7 +10,7 @@ use std::alloc::{AllocError, Global};
 
 /// A line of a text.
 #[derive(Clone, Copy)]
-pub struct Shown<'a> {
+pub struct ShownLine<'a> {
     /// Its place among the lines, from 0 on.
     pub at: usize,
     pub bytes: &'a [u8],
@@ -21,27 +21,27 @@ pub struct Shown<'a> {
 pub struct Explained<'a> {
     pub breach: Breach,
     /// The earlier operation.
-    pub first: Option<Shown<'a>>,
+    pub first: Option<ShownLine<'a>>,
     /// The later one.
-    pub second: Option<Shown<'a>>,
+    pub second: Option<ShownLine<'a>>,
     /// The Write that is missing, as its own server holds it.
-    pub write: Option<Shown<'a>>,
+    pub write: Option<ShownLine<'a>>,
     /// The same, as the server holds it at which it was missing.
-    pub there: Option<Shown<'a>>,
+    pub there: Option<ShownLine<'a>>,
 }
 
 /// The line as it is shown.
-pub(crate) fn shown_as<'a>(line: &Located<'a>) -> Shown<'a>
+pub(crate) fn shown_as<'a>(line: &Located<'a>) -> ShownLine<'a>
     ensures { IsOfLine line.now result }
 {
-    Shown {
+    ShownLine {
         at: line.at,
         bytes: line.bytes,
     }
 }
 
 // The line of the operation at this place of the session.
-fn operation<'a>(lines: &[Located<'a>], session: SessionId, place: u32) -> Option<Shown<'a>>
+fn operation<'a>(lines: &[Located<'a>], session: SessionId, place: u32) -> Option<ShownLine<'a>>
     ensures { IsFound lines.now (IsOperationAt session.index place) result }
 {
     for line in lines {
@@ -53,7 +53,7 @@ fn operation<'a>(lines: &[Located<'a>], session: SessionId, place: u32) -> Optio
 }
 
 /// The line of the Write of this name, as the server holds it.
-pub(crate) fn held<'a>(lines: &[Located<'a>], server: ServerId, wid: Wid) -> Option<Shown<'a>>
+pub(crate) fn held<'a>(lines: &[Located<'a>], server: ServerId, wid: Wid) -> Option<ShownLine<'a>>
     ensures { IsFound lines.now (IsHeldBy server.index wid) result }
 {
     for line in lines {

@@ -6,7 +6,7 @@ ghost use Rattle.bayou_explain.specs.Explanation.{TellEach, TellsDump, TellsRefu
 use crate::dumped::held_at;
 use crate::explained::{explain_each, held};
 use crate::line::Located;
-use crate::misfit::{Misfit, misfit_at, misfit_text};
+use crate::misfit::{DumpMisfit, misfit_at, misfit_text};
 use crate::refused::explain_forged;
 use crate::telling::{explained_text, forged_text, line_text};
 use bayou_base::ServerId;
@@ -43,10 +43,10 @@ fn dump_title(alloc: Global, server: ServerId, place: usize) -> Result<String, A
 fn other_text(
     alloc: Global,
     lines: &[Located<'_>],
-    misfit: Option<Misfit>,
+    misfit: Option<DumpMisfit>,
 ) -> Result<String, AllocError> {
     match misfit {
-        Some(Misfit::Other { server, wid }) => {
+        Some(DumpMisfit::Other { server, wid }) => {
             line_text(alloc, "against", held(lines, server, wid))
         }
         _ => Ok(String::new(alloc)),
@@ -54,7 +54,7 @@ fn other_text(
 }
 
 // Which condition the Write fails, if it fails one.
-fn reason_text(alloc: Global, misfit: Option<Misfit>) -> Result<String, AllocError>
+fn reason_text(alloc: Global, misfit: Option<DumpMisfit>) -> Result<String, AllocError>
     ensures { IfOk result (λ text. string_bytes text ≡ misfit_lines misfit) }
 {
     match misfit {
@@ -69,7 +69,7 @@ fn dump_lines(
     lines: &[Located<'_>],
     server: ServerId,
     place: usize,
-    misfit: Option<Misfit>,
+    misfit: Option<DumpMisfit>,
 ) -> Result<String, AllocError>
     ensures { IfOk result (λ text. (shown : List ℕ) × (string_bytes text ≡ bad_dump_text server.index place ++ (shown ++ misfit_lines misfit))) }
 {

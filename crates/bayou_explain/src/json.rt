@@ -6,9 +6,9 @@ ghost use Rattle.bayou_explain.specs.Json.{TellEachAsJson, TellsBreachAsJson, ba
 use crate::counted::counts_of;
 use crate::dumped::held_at;
 use crate::each_server::first_counts;
-use crate::explained::{Explained, Shown, explain_each, held};
+use crate::explained::{Explained, ShownLine, explain_each, held};
 use crate::line::Located;
-use crate::misfit::{Misfit, dump_at, misfit_at};
+use crate::misfit::{DumpMisfit, dump_at, misfit_at};
 use crate::refused::{Cause, explain_forged};
 use crate::telling::line_of;
 use bayou_judge::{BadEvidence, Breach, Guarantee, Surveyed, Verdict};
@@ -150,7 +150,7 @@ pub fn survey_objects(alloc: Global, survey: &[Surveyed]) -> Result<String, Allo
 }
 
 // Where the line is among the lines of its text.
-fn at_of(line: Option<Shown<'_>>) -> Option<usize> {
+fn at_of(line: Option<ShownLine<'_>>) -> Option<usize> {
     match line {
         Some(line) => Some(line.at),
         None => None,
@@ -227,18 +227,18 @@ fn cause_word(cause: Option<Cause<'_>>) -> &'static str {
 }
 
 // A condition that a Write fails: its word, what is found, and what is expected or held.
-fn misfit_fields(alloc: Global, misfit: Option<Misfit>) -> Result<String, AllocError> {
+fn misfit_fields(alloc: Global, misfit: Option<DumpMisfit>) -> Result<String, AllocError> {
     match misfit {
-        Some(Misfit::Origin(origin)) => {
+        Some(DumpMisfit::Origin(origin)) => {
             let origin = origin.index;
             format!(in alloc; "\"condition\":\"origin\",\"found\":{origin}")
         }
-        Some(Misfit::Number { wid, held }) => {
+        Some(DumpMisfit::Number { wid, held }) => {
             let seq = wid.seq;
             format!(in alloc; "\"condition\":\"number\",\"found\":{seq},\"held\":{held}")
         }
         Some(
-            Misfit::Counts {
+            DumpMisfit::Counts {
                 server,
                 counted,
                 held,
@@ -248,15 +248,15 @@ fn misfit_fields(alloc: Global, misfit: Option<Misfit>) -> Result<String, AllocE
                 "\"condition\":\"counts\",\"of\":{server},\"found\":{counted},\"held\":{held}"
             )
         }
-        Some(Misfit::Own { wid, counted }) => {
+        Some(DumpMisfit::Own { wid, counted }) => {
             let seq = wid.seq;
             format!(in alloc; "\"condition\":\"own\",\"found\":{counted},\"number\":{seq}")
         }
-        Some(Misfit::Clock { found, expected }) => {
+        Some(DumpMisfit::Clock { found, expected }) => {
             format!(in alloc; "\"condition\":\"clock\",\"found\":{found},\"expected\":{expected}")
         }
         Some(
-            Misfit::Past {
+            DumpMisfit::Past {
                 server,
                 counted,
                 held,
@@ -266,7 +266,7 @@ fn misfit_fields(alloc: Global, misfit: Option<Misfit>) -> Result<String, AllocE
                 "\"condition\":\"past\",\"of\":{server},\"found\":{counted},\"held\":{held}"
             )
         }
-        Some(Misfit::Other { server, .. }) => {
+        Some(DumpMisfit::Other { server, .. }) => {
             let server = server.index;
             format!(in alloc; "\"condition\":\"other\",\"of\":{server}")
         }
@@ -275,9 +275,9 @@ fn misfit_fields(alloc: Global, misfit: Option<Misfit>) -> Result<String, AllocE
 }
 
 // The line that a misfit names.
-fn against(lines: &[Located<'_>], misfit: Option<Misfit>) -> Option<usize> {
+fn against(lines: &[Located<'_>], misfit: Option<DumpMisfit>) -> Option<usize> {
     match misfit {
-        Some(Misfit::Other { server, wid }) => match held(lines, server, wid) {
+        Some(DumpMisfit::Other { server, wid }) => match held(lines, server, wid) {
             Some(shown) => Some(shown.at),
             None => None,
         },

@@ -25,7 +25,7 @@ pub mod telling;
 pub use counted::counts_of;
 pub use dumped::held_at;
 pub use each_server::standing_text;
-pub use explained::{Explained, Shown, every_breach, explain, explain_each, least_breaches};
+pub use explained::{Explained, ShownLine, every_breach, explain, explain_each, least_breaches};
 pub use explanation::{audited_text, counted_text, explanation_text, refusal_text};
 pub use json::{
     audited_object, counted_object, explanation_objects, refusal_object, survey_objects,
@@ -33,7 +33,7 @@ pub use json::{
 };
 pub use line::Located;
 pub use located::locate;
-pub use misfit::{Misfit, misfit_at, misfit_text};
+pub use misfit::{DumpMisfit, misfit_at, misfit_text};
 pub use refused::{Cause, Forged, explain_forged};
 pub use sentence::{breach_sentence, breach_title, reason_line};
 pub use telling::{explained_text, forged_text, shown_line};

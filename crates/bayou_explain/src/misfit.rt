@@ -13,7 +13,7 @@ use std::alloc::{AllocError, Global};
 
 /// Which condition a Write fails, with what is found and what is expected.
 #[derive(Clone, Copy, Debug, PartialEq, Eq)]
-pub enum Misfit {
+pub enum DumpMisfit {
     /// There is no server that it says it is of.
     Origin(ServerId),
     /// It isn't the next of its server's Writes, of which so many stand before it.
@@ -51,20 +51,20 @@ pub enum Misfit {
 }
 
 // Which condition the Write fails beside those before it alone.
-fn unfit(count: u8, before: &[RestingWrite], write: &RestingWrite) -> Option<Misfit>
+fn unfit(count: u8, before: &[RestingWrite], write: &RestingWrite) -> Option<DumpMisfit>
     ensures { MatchOption result (Fits count before.now write.now) (IsUnfit count before.now write.now) }
 {
     let (wid, counts) = (write.wid(), counts_of(before));
     if wid.origin.index >= count {
-        return Some(Misfit::Origin(wid.origin));
+        return Some(DumpMisfit::Origin(wid.origin));
     }
     let held = counts[usize::from(wid.origin.index)];
     if wid.seq as usize - 1 != held {
-        return Some(Misfit::Number { wid, held });
+        return Some(DumpMisfit::Number { wid, held });
     }
     if let Some(server) = exceeding(write.deps(), &counts) {
         let (counted, held) = (write.deps().counts()[server], counts[server]);
-        return Some(Misfit::Counts {
+        return Some(DumpMisfit::Counts {
             server,
             counted,
             held,
@@ -72,18 +72,18 @@ fn unfit(count: u8, before: &[RestingWrite], write: &RestingWrite) -> Option<Mis
     }
     let counted = write.deps().get(wid.origin);
     if counted + 1 != wid.seq {
-        return Some(Misfit::Own { wid, counted });
+        return Some(DumpMisfit::Own { wid, counted });
     }
     let expected = u64::from(clock_among(before, write.deps())) + 1;
     let found = write.stamp().clock;
     if u64::from(found) != expected {
-        return Some(Misfit::Clock { found, expected });
+        return Some(DumpMisfit::Clock { found, expected });
     }
     None
 }
 
 // Whether it counts other than all that stand before it, and where.
-fn past(before: &[RestingWrite], write: &RestingWrite) -> Option<Misfit>
+fn past(before: &[RestingWrite], write: &RestingWrite) -> Option<DumpMisfit>
     ensures { MatchOption result (write.now.deps ≡ count_of before.now) (IsPast before.now write.now) }
 {
     let counts = counts_of(before);
@@ -91,7 +91,7 @@ fn past(before: &[RestingWrite], write: &RestingWrite) -> Option<Misfit>
         return None;
     };
     let (counted, held) = (write.deps().counts()[server], counts[server]);
-    Some(Misfit::Past {
+    Some(DumpMisfit::Past {
         server,
         counted,
         held,
@@ -171,7 +171,7 @@ fn misfit_among(
     server: ServerId,
     before: &[RestingWrite],
     write: &RestingWrite,
-) -> Option<Misfit>
+) -> Option<DumpMisfit>
     ensures { MatchOption result (IsGood count (lent_lists dumps.now) server.index before.now write.now) (IsMisfit count (lent_lists dumps.now) server.index before.now write.now) }
 {
     if let Some(misfit) = unfit(count, before, write) {
@@ -183,7 +183,7 @@ fn misfit_among(
         return Some(misfit);
     }
     match other_before(dumps, server, write) {
-        Some(server) => Some(Misfit::Other {
+        Some(server) => Some(DumpMisfit::Other {
             server,
             wid: write.wid(),
         }),
@@ -197,7 +197,7 @@ pub fn misfit_at(
     dumps: &[&[RestingWrite]],
     server: ServerId,
     place: usize,
-) -> Option<Misfit>
+) -> Option<DumpMisfit>
     ensures { MatchOption result (IsGoodAt count (lent_lists dumps.now) server.index place) (IsMisfitAt count (lent_lists dumps.now) server.index place) }
 {
     let dump = dump_at(dumps, usize::from(server.index));
@@ -208,21 +208,21 @@ pub fn misfit_at(
 }
 
 /// The condition, with what is found and what is expected, in a line.
-pub fn misfit_text(alloc: Global, misfit: Misfit) -> Result<String, AllocError>
+pub fn misfit_text(alloc: Global, misfit: DumpMisfit) -> Result<String, AllocError>
     ensures { IfOk result (λ text. string_bytes text ≡ misfit_line misfit) }
 {
     match misfit {
-        Misfit::Origin(origin) => {
+        DumpMisfit::Origin(origin) => {
             let origin = origin.index;
             format!(in alloc; "  its origin: found server {origin}, expected one of the file's\n")
         }
-        Misfit::Number { wid, held } => {
+        DumpMisfit::Number { wid, held } => {
             let (origin, seq) = (wid.origin.index, wid.seq);
             format!(in alloc;
                 "  its number: found {seq}, expected one more than the {held} of server {origin}'s before it\n"
             )
         }
-        Misfit::Counts {
+        DumpMisfit::Counts {
             server,
             counted,
             held,
@@ -231,18 +231,18 @@ pub fn misfit_text(alloc: Global, misfit: Misfit) -> Result<String, AllocError>
                 "  its past: found {counted} Writes of server {server}, expected {held} at most, those before it\n"
             )
         }
-        Misfit::Own { wid, counted } => {
+        DumpMisfit::Own { wid, counted } => {
             let seq = wid.seq;
             format!(in alloc;
                 "  its past: found {counted} Writes of its own server, expected one less than its number {seq}\n"
             )
         }
-        Misfit::Clock { found, expected } => {
+        DumpMisfit::Clock { found, expected } => {
             format!(in alloc;
                 "  its clock: found {found}, expected {expected}, one more than the greatest of its past\n"
             )
         }
-        Misfit::Past {
+        DumpMisfit::Past {
             server,
             counted,
             held,
@@ -251,7 +251,7 @@ pub fn misfit_text(alloc: Global, misfit: Misfit) -> Result<String, AllocError>
                 "  its past: found {counted} Writes of server {server}, expected {held}, all those before it\n"
             )
         }
-        Misfit::Other { server, .. } => {
+        DumpMisfit::Other { server, .. } => {
             let server = server.index;
             format!(in alloc; "  its content: found another Write of its name at server {server}\n")
         }

@@ -7,7 +7,7 @@ ghost use Rattle.bayou_explain.specs.Explained.{IsFound};
 ghost use Rattle.bayou_explain.specs.Located.{tells_entry};
 ghost use Rattle.bayou_explain.specs.Refused.{AsksOther, IsBlameless, IsCause, IsCauseOf, IsEntryNumber, IsForged, IsHeldOtherwise, IsNotBelow, IsSound, NamesWrite};
 
-use crate::explained::{Shown, held, shown_as};
+use crate::explained::{ShownLine, held, shown_as};
 use crate::line::Located;
 use bayou_base::{Asks, Entry, ServerId, SessionId, Stamp, Vector, What, Wid};
 use bayou_lang::RestingWrite;
@@ -17,17 +17,17 @@ use bayou_text::AuditLine;
 #[derive(Clone, Copy)]
 pub enum Cause<'a> {
     /// Its place isn't above the one that this earlier entry of its session has.
-    Place(Shown<'a>),
+    Place(ShownLine<'a>),
     /// Its session asked for something else in this earlier entry.
-    Asks(Shown<'a>),
+    Asks(ShownLine<'a>),
     /// It names a Write of another server than its own.
     Origin,
     /// This earlier entry names the same Write.
-    Again(Shown<'a>),
+    Again(ShownLine<'a>),
     /// Its server's dump hasn't the Write that it names.
     Lost,
     /// Its server's dump has that Write with another clock or another past.
-    Differs(Shown<'a>),
+    Differs(ShownLine<'a>),
     /// It is a read: its server never had the database that it names.
     Database,
 }
@@ -97,7 +97,7 @@ fn is_held_otherwise(
 }
 
 // The first of these lines that is an entry of the session whose place isn't below this one.
-fn not_below<'a>(lines: &[Located<'a>], session: SessionId, place: u32) -> Option<Shown<'a>>
+fn not_below<'a>(lines: &[Located<'a>], session: SessionId, place: u32) -> Option<ShownLine<'a>>
     ensures { IsFound lines.now (IsNotBelow session.index place) result }
 {
     for line in lines {
@@ -109,7 +109,7 @@ fn not_below<'a>(lines: &[Located<'a>], session: SessionId, place: u32) -> Optio
 }
 
 // The first of these lines that is an entry of the session that asks for something else.
-fn other_asks<'a>(lines: &[Located<'a>], session: SessionId, asks: Asks) -> Option<Shown<'a>>
+fn other_asks<'a>(lines: &[Located<'a>], session: SessionId, asks: Asks) -> Option<ShownLine<'a>>
     ensures { IsFound lines.now (AsksOther session.index asks) result }
 {
     for line in lines {
@@ -121,7 +121,7 @@ fn other_asks<'a>(lines: &[Located<'a>], session: SessionId, asks: Asks) -> Opti
 }
 
 // The first of these lines that is an entry that names the Write.
-fn named<'a>(lines: &[Located<'a>], wid: Wid) -> Option<Shown<'a>>
+fn named<'a>(lines: &[Located<'a>], wid: Wid) -> Option<ShownLine<'a>>
     ensures { IsFound lines.now (NamesWrite wid) result }
 {
     for line in lines {
@@ -139,7 +139,7 @@ fn differing<'a>(
     wid: Wid,
     stamp: Stamp,
     deps: &Vector,
-) -> Option<Shown<'a>>
+) -> Option<ShownLine<'a>>
     ensures { IsFound lines.now (IsHeldOtherwise server.index wid stamp deps.now) result }
 {
     for line in lines {
@@ -198,7 +198,7 @@ fn cause_of<'a>(before: &[Located<'a>], lines: &[Located<'a>], entry: &Entry) ->
 /// An entry that can't be true.
 #[derive(Clone, Copy)]
 pub struct Forged<'a> {
-    pub entry: Shown<'a>,
+    pub entry: ShownLine<'a>,
     /// Which condition it fails first; `None` where the lines show none.
     pub cause: Option<Cause<'a>>,
 }

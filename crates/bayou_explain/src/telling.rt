@@ -2,7 +2,7 @@
 ghost use Rattle.std.specs.Prelude.{◌≡◌, ◌++◌, ℕ, IfOk, List, string_bytes};
 ghost use Rattle.bayou_explain.specs.Sentence.{entry_text, reason_text, sentence_text, title_text};
 
-use crate::explained::{Explained, Shown};
+use crate::explained::{Explained, ShownLine};
 use crate::refused::{Cause, Forged};
 use crate::sentence::{breach_sentence, breach_title, reason_line};
 use std::alloc::{AllocError, Global};
@@ -39,7 +39,7 @@ pub fn shown_line(alloc: Global, bytes: &[u8]) -> Result<String, AllocError> {
 pub(crate) fn line_text(
     alloc: Global,
     what: &str,
-    line: Option<Shown<'_>>,
+    line: Option<ShownLine<'_>>,
 ) -> Result<String, AllocError> {
     let Some(line) = line else {
         return format!(in alloc; "  {what}: no line\n");
@@ -86,7 +86,7 @@ pub fn explained_text(alloc: Global, explained: &Explained<'_>) -> Result<String
 }
 
 // The line that the cause names.
-pub(crate) fn line_of<'a>(cause: Option<Cause<'a>>) -> Option<Shown<'a>> {
+pub(crate) fn line_of<'a>(cause: Option<Cause<'a>>) -> Option<ShownLine<'a>> {
     match cause? {
         Cause::Place(shown) | Cause::Asks(shown) | Cause::Again(shown) | Cause::Differs(shown) => {
             Some(shown)

@@ -3,9 +3,9 @@ use Rattle.std.specs.Prelude.{◌≡◌, ◌≢◌, ◌≤◌, ℕ, List, [], Is
 use Rattle.bayou_base.specs.declared.limits.TheConstants.{SERVERS}
 use Rattle.bayou_base.specs.Key.{prefix_fault}
 use Rattle.bayou_export.specs.declared.whose.Whose.{Whose}
-use Rattle.bayou_export.specs.declared.plan.Plan.{Plan}
-use Rattle.bayou_export.specs.declared.plan.PlanFault.{PlanFault}
-use Rattle.bayou_export.specs.declared.plan.PlanFault.TheVariants.{NotTogether, NotOne, KeyOfJournal, NoServer, NoPrefix}
+use Rattle.bayou_export.specs.declared.plan.ExportPlan.{ExportPlan}
+use Rattle.bayou_export.specs.declared.plan.ExportPlanFault.{ExportPlanFault}
+use Rattle.bayou_export.specs.declared.plan.ExportPlanFault.TheVariants.{NotTogether, NotOne, KeyOfJournal, NoServer, NoPrefix}
 
 -- the word is of a prefix; where there is none, each key begins so
 abbrev pub SaysPrefix : (word : Option (List ℕ)) → (prefix : List ℕ) → Type 0
@@ -26,20 +26,20 @@ pub record IsWhose (id : ℕ) (count : Option ℕ) (key : Option (List ℕ)) (wh
   pub count_is : whose.count ≡ among count
   pub no_key : key ≡ None
 
-abbrev pub RefusesWhose : (id : ℕ) → (count : Option ℕ) → (key : Option (List ℕ)) → PlanFault → Type 0
+abbrev pub RefusesWhose : (id : ℕ) → (count : Option ℕ) → (key : Option (List ℕ)) → ExportPlanFault → Type 0
 RefusesWhose id count key KeyOfJournal = IsSome key
 RefusesWhose id count key NoServer = among count ≤ id
 RefusesWhose id count key _ = ⊥
 
 -- The plan is to read the journal of the server whose number is said, with the folder that it is in; or else to ask servers, some of which are named.
-pub record IsPlanOf (servers : ℕ) (count : Option ℕ) (key folder : Option (List ℕ)) (id : Option ℕ) (prefix : Option (List ℕ)) (plan : Plan) : Type 0 where
+pub record IsPlanOf (servers : ℕ) (count : Option ℕ) (key folder : Option (List ℕ)) (id : Option ℕ) (prefix : Option (List ℕ)) (plan : ExportPlan) : Type 0 where
   pub one : is_some folder ≢ nat_lt 0 servers
   pub together : is_some folder ≡ is_some id
   pub whose : MatchOption id (plan.whose ≡ None) (λ id. IsSomeAnd plan.whose (IsWhose id count key))
   pub begins : SaysPrefix prefix plan.prefix
 
 -- why the words make no plan
-abbrev pub Refuses : (servers : ℕ) → (count : Option ℕ) → (key folder : Option (List ℕ)) → (id : Option ℕ) → (prefix : Option (List ℕ)) → PlanFault → Type 0
+abbrev pub Refuses : (servers : ℕ) → (count : Option ℕ) → (key folder : Option (List ℕ)) → (id : Option ℕ) → (prefix : Option (List ℕ)) → ExportPlanFault → Type 0
 Refuses servers count key folder id prefix NotTogether = is_some folder ≢ is_some id
 Refuses servers count key folder id prefix NotOne = is_some folder ≡ nat_lt 0 servers
 Refuses servers count key folder id prefix NoPrefix = SaysNoPrefix prefix

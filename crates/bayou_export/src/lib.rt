@@ -16,7 +16,7 @@ pub mod writing;
 
 pub use journal::{Export, export_journal, export_of};
 pub use lines::told_counts;
-pub use plan::{Plan, PlanFault};
+pub use plan::{ExportPlan, ExportPlanFault};
 pub use rows::rows_of;
 pub use whose::Whose;
 pub use writing::write_export;

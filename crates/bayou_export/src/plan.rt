@@ -10,7 +10,7 @@ use thiserror::Error;
 
 /// What is exported.
 #[derive(Drop)]
-pub struct Plan {
+pub struct ExportPlan {
     /// Whose journal is read; `None` where servers are asked.
     pub whose: Option<Whose>,
     /// What the keys begin with.
@@ -19,7 +19,7 @@ pub struct Plan {
 
 /// Why the words of a command line make no plan.
 #[derive(Clone, Copy, Debug, PartialEq, Eq, Error)]
-pub enum PlanFault {
+pub enum ExportPlanFault {
     #[error("--dir and --id go together")]
     NotTogether,
     #[error("export takes either --server, or --dir and --id")]
@@ -44,16 +44,16 @@ fn prefix_of(word: Option<&str>) -> Option<Prefix>
 }
 
 // Whose journal is read, of so many servers, if that is said, else of as many as there may be.
-fn whose_of(id: u8, count: Option<u8>, key: Option<&str>) -> Result<Whose, PlanFault>
+fn whose_of(id: u8, count: Option<u8>, key: Option<&str>) -> Result<Whose, ExportPlanFault>
     requires { IfSome count (λ count. count ≤ MOST_SERVERS) }
     ensures { MatchResult result (IsWhose id count (option_copied key.entry)) (RefusesWhose id count (option_copied key.entry)) }
 {
     if key.is_some() {
-        return Err(PlanFault::KeyOfJournal);
+        return Err(ExportPlanFault::KeyOfJournal);
     }
     let count = count.unwrap_or(SERVERS as u8);
     if id >= count {
-        return Err(PlanFault::NoServer);
+        return Err(ExportPlanFault::NoServer);
     }
     Ok(Whose {
         id: ServerId { index: id },
@@ -66,7 +66,7 @@ fn whose_in(
     id: Option<u8>,
     count: Option<u8>,
     key: Option<&str>,
-) -> Result<Option<Whose>, PlanFault>
+) -> Result<Option<Whose>, ExportPlanFault>
     requires { IfSome count (λ count. count ≤ MOST_SERVERS) }
     ensures none { id ≡ None → result ≡ Ok None }
     ensures some { IfSome id (λ id. MatchResult result (λ whose. IsSomeAnd whose (IsWhose id count (option_copied key.entry))) (RefusesWhose id count (option_copied key.entry))) }
@@ -77,7 +77,7 @@ fn whose_in(
     }
 }
 
-impl Plan {
+impl ExportPlan {
     /// The plan that these words make, of which so many name servers, or why they make none.
     pub fn new(
         servers: usize,
@@ -86,21 +86,21 @@ impl Plan {
         folder: Option<&str>,
         id: Option<u8>,
         prefix: Option<&str>,
-    ) -> Result<Plan, PlanFault>
+    ) -> Result<ExportPlan, ExportPlanFault>
         requires { IfSome count (λ count. count ≤ MOST_SERVERS) }
         ensures { MatchResult result (IsPlanOf servers count (option_copied key.entry) (option_copied folder.entry) id (option_copied prefix.entry))
             (Refuses servers count (option_copied key.entry) (option_copied folder.entry) id (option_copied prefix.entry)) }
     {
         if folder.is_some() != id.is_some() {
-            return Err(PlanFault::NotTogether);
+            return Err(ExportPlanFault::NotTogether);
         }
         if folder.is_some() == (servers > 0) {
-            return Err(PlanFault::NotOne);
+            return Err(ExportPlanFault::NotOne);
         }
         let Some(prefix) = prefix_of(prefix) else {
-            return Err(PlanFault::NoPrefix);
+            return Err(ExportPlanFault::NoPrefix);
         };
         let whose = whose_in(id, count, key)?;
-        Ok(Plan { whose, prefix })
+        Ok(ExportPlan { whose, prefix })
     }
 }

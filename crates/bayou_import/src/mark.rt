@@ -14,7 +14,7 @@ use thiserror::Error;
 
 /// Of which text an import is, and at which server: what its mark begins with.
 #[derive(Drop)]
-pub struct Mark {
+pub struct ImportMark {
     start: String,
 }
 
@@ -49,16 +49,16 @@ fn digits_of(alloc: Global, text: &[u8]) -> Result<String, AllocError>
 }
 
 /// The mark of an import of this text at this server.
-pub fn mark_of(alloc: Global, text: &[u8], server: ServerId) -> Result<Mark, AllocError>
+pub fn mark_of(alloc: Global, text: &[u8], server: ServerId) -> Result<ImportMark, AllocError>
     ensures { IfOk result (λ mark. string_bytes mark.start ≡ mark_start text.now server.index) }
 {
     let (digits, index) = (digits_of(alloc, text)?, server.index);
     let start = format!(in alloc; "bayou-import-1 {digits} server {index} run ")?;
-    Ok(Mark { start })
+    Ok(ImportMark { start })
 }
 
 // The mark with its run.
-fn text_of(alloc: Global, mark: &Mark, run: u32) -> Result<String, AllocError>
+fn text_of(alloc: Global, mark: &ImportMark, run: u32) -> Result<String, AllocError>
     ensures { IfOk result (λ text. string_bytes text ≡ mark_text (string_bytes mark.now.start) run) }
 {
     let start = mark.start.as_str();
@@ -77,7 +77,7 @@ fn run_behind(start: &str, text: &str) -> Option<u32>
 }
 
 // The run that these bytes keep of the import, if they keep one of it.
-fn run_in(alloc: Global, mark: &Mark, bytes: &[u8]) -> Result<Option<u32>, AllocError>
+fn run_in(alloc: Global, mark: &ImportMark, bytes: &[u8]) -> Result<Option<u32>, AllocError>
     ensures { IfOk result (λ run. IfSome run (IsMarkOf (string_bytes mark.now.start) bytes.now)) }
 {
     let Ok(text) = str::from_utf8(bytes) else {
@@ -132,7 +132,7 @@ fn is_torn(start: &str, bytes: &[u8]) -> bool
 pub fn kept_run<D: Device>(
     alloc: Global,
     device: &mut D,
-    mark: &Mark,
+    mark: &ImportMark,
     drawn: u32,
 ) -> Result<u32, MarkFault>
     requires { 0 < drawn }

@@ -12,7 +12,7 @@ use thiserror::Error;
 
 /// Why a text isn't the lines of an export.
 #[derive(Clone, Copy, Debug, PartialEq, Eq, Error)]
-pub enum ReadFault {
+pub enum LinesFault {
     #[error("line 1: it doesn't say how many keys follow, as [\"exported\",NAME,[V0,V1,..],KEYS]")]
     NoNumber,
     #[error("line {0}: it is no [\"put\",KEY,VALUE]")]
@@ -23,14 +23,14 @@ pub enum ReadFault {
     OutOfMemory,
 }
 
-impl From<AllocError> for ReadFault {
+impl From<AllocError> for LinesFault {
     ghost use Rattle.std.specs.Prelude.{◌≡◌};
-    ghost use Rattle.bayou_import.specs.declared.reading.ReadFault.TheVariants.{OutOfMemory};
+    ghost use Rattle.bayou_import.specs.declared.reading.LinesFault.TheVariants.{OutOfMemory};
 
     ghost from_gives = { λ _ fault. fault ≡ OutOfMemory };
 
-    fn from(_error: AllocError) -> ReadFault {
-        ReadFault::OutOfMemory
+    fn from(_error: AllocError) -> LinesFault {
+        LinesFault::OutOfMemory
     }
 }
 
@@ -81,7 +81,7 @@ fn first_line(text: &str) -> (&str, &str)
 }
 
 // The rows of these lines, of which the first has this number.
-fn rows_in(alloc: Global, text: &str, first: u64) -> Result<Vec<(Key, Value)>, ReadFault>
+fn rows_in(alloc: Global, text: &str, first: u64) -> Result<Vec<(Key, Value)>, LinesFault>
     ensures { IfOk result (λ rows. SaysRows text.now rows.items) }
 {
     let mut rows = Vec::new(alloc);
@@ -90,10 +90,10 @@ fn rows_in(alloc: Global, text: &str, first: u64) -> Result<Vec<(Key, Value)>, R
     while !rest.is_empty() {
         let (line, behind) = first_line(rest);
         let Some(row) = row_on(alloc, line)? else {
-            return Err(ReadFault::NoRow(number));
+            return Err(LinesFault::NoRow(number));
         };
         if rows.push(row).is_err() {
-            return Err(ReadFault::OutOfMemory);
+            return Err(LinesFault::OutOfMemory);
         }
         rest = behind;
         number = number.saturating_add(1);
@@ -102,17 +102,17 @@ fn rows_in(alloc: Global, text: &str, first: u64) -> Result<Vec<(Key, Value)>, R
 }
 
 /// The rows that the text says: a line that says how many keys follow, and then a line for each, in any spelling that JSON has.
-pub fn read_export(alloc: Global, text: &str) -> Result<Vec<(Key, Value)>, ReadFault>
+pub fn read_export(alloc: Global, text: &str) -> Result<Vec<(Key, Value)>, LinesFault>
     ensures { IfOk result (λ rows. IsExport text.now rows.items) }
 {
     let (first, behind) = first_line(text);
     let Some(said) = number_on(alloc, first)? else {
-        return Err(ReadFault::NoNumber);
+        return Err(LinesFault::NoNumber);
     };
     let rows = rows_in(alloc, behind, 2)?;
     let found = rows.len() as u64;
     if found != said {
-        return Err(ReadFault::OtherNumber { said, found });
+        return Err(LinesFault::OtherNumber { said, found });
     }
     Ok(rows)
 }

@@ -5,17 +5,17 @@ use Rattle.bayou_judge.specs.declared.breach.Guarantee.{Guarantee}
 use Rattle.bayou_judge.specs.declared.breach.Guarantee.TheVariants.{ReadYourWrites, MonotonicReads, WritesFollowReads, MonotonicWrites}
 use Rattle.bayou_picture.specs.declared.drawing.Drawing.{Drawing}
 use Rattle.bayou_picture.specs.declared.drawing.Drawn.{Drawn}
-use Rattle.bayou_picture.specs.declared.shape.Form.{Form}
-use Rattle.bayou_picture.specs.declared.shape.Form.TheVariants as form
-use Rattle.bayou_picture.specs.declared.shape.Kind.{Kind}
-use Rattle.bayou_picture.specs.declared.shape.Kind.TheVariants as kind
+use Rattle.bayou_picture.specs.declared.shape.ShapeForm.{ShapeForm}
+use Rattle.bayou_picture.specs.declared.shape.ShapeForm.TheVariants as form
+use Rattle.bayou_picture.specs.declared.shape.ShapeKind.{ShapeKind}
+use Rattle.bayou_picture.specs.declared.shape.ShapeKind.TheVariants as kind
 use Rattle.bayou_picture.specs.declared.shape.Point.{Point}
-use Rattle.bayou_picture.specs.declared.shape.Shape.{Shape}
+use Rattle.bayou_picture.specs.declared.shape.DrawnShape.{DrawnShape}
 use Rattle.bayou_picture.specs.declared.shape.Style.{Style}
 use Rattle.bayou_picture.specs.declared.spelling.TheConstants.{STYLES}
 use Rattle.bayou_picture.specs.Escape.{escaped}
 
-abbrev pub kind_word : Kind → List ℕ
+abbrev pub kind_word : ShapeKind → List ℕ
 kind_word kind.Ground = codes "ground"
 kind_word kind.Rail = codes "rail"
 kind_word kind.Heading = codes "heading"
@@ -44,7 +44,7 @@ hue_text (Some hue) = codes " h" ++ decimal hue
 abbrev pub class_text : Style → List ℕ
 class_text style = codes " class=\"" ++ (kind_word style.kind ++ (hue_text style.hue ++ codes "\""))
 
-abbrev pub tag_of : Form → List ℕ
+abbrev pub tag_of : ShapeForm → List ℕ
 tag_of (form.Line from to) = codes "line"
 tag_of (form.Box corner width height) = codes "rect"
 tag_of (form.Disc center radius) = codes "circle"
@@ -59,7 +59,7 @@ abbrev pub bend_text : (from towards to : Point) → List ℕ
 bend_text from towards to = codes " d=\"M" ++ (pair_text from ++ (codes " Q" ++ (pair_text towards ++ (codes " " ++ (pair_text to ++ codes "\"")))))
 
 -- where a shape is
-abbrev pub attributes : Form → List ℕ
+abbrev pub attributes : ShapeForm → List ℕ
 attributes (form.Line from to) =
     codes " x1=\"" ++ (decimal from.x ++ (codes "\" y1=\"" ++ (decimal from.y ++ (codes "\" x2=\"" ++ (decimal to.x ++ (codes "\" y2=\"" ++ (decimal to.y ++ codes "\"")))))))
 attributes (form.Box corner width height) =
@@ -76,7 +76,7 @@ hint_text [] = []
 hint_text (byte ∷ bytes) = codes "<title>" ++ (escaped (byte ∷ bytes) ++ codes "</title>")
 
 -- the text of a label, escaped
-abbrev pub content : Form → List ℕ
+abbrev pub content : ShapeForm → List ℕ
 content (form.Line from to) = []
 content (form.Box corner width height) = []
 content (form.Disc center radius) = []
@@ -84,12 +84,12 @@ content (form.Bend from towards to) = []
 content (form.Label at label) = escaped (string_bytes label)
 
 -- a shape
-abbrev pub shape_text : Shape → List ℕ
+abbrev pub shape_text : DrawnShape → List ℕ
 shape_text shape =
     (codes "<" ++ (tag_of shape.form ++ (class_text shape.style ++ (attributes shape.form ++ codes ">"))))
     ++ (hint_text (string_bytes shape.hint) ++ (content shape.form ++ (codes "</" ++ (tag_of shape.form ++ codes ">\n"))))
 
-abbrev pub shapes_text : List Shape → List ℕ
+abbrev pub shapes_text : List DrawnShape → List ℕ
 shapes_text shapes = flat_map shape_text shapes
 
 abbrev pub guarantee_word : Guarantee → List ℕ

@@ -6,7 +6,7 @@ use crate::canvas::{Canvas, HALF_HEIGHT, hued, plain};
 use crate::drawing::Drawn;
 use crate::layout::{LANE, Layout, NAMES, along};
 use crate::marks::{Marked, Marks};
-use crate::shape::{Form, Kind, Point};
+use crate::shape::{Point, ShapeForm, ShapeKind};
 use bayou_base::Wid;
 use bayou_explain::{Located, breach_sentence, breach_title};
 use bayou_judge::Breach;
@@ -108,8 +108,11 @@ fn draw_number(
     at: Point,
 ) -> Result<(), AllocError> {
     let number = numbered.number;
-    canvas.shape(Form::Disc(at, RADIUS), hued(Kind::Number, numbered.hue))?;
-    canvas.inside(at, Kind::Number, format!(in alloc; "{number}")?)
+    canvas.shape(
+        ShapeForm::Disc(at, RADIUS),
+        hued(ShapeKind::Number, numbered.hue),
+    )?;
+    canvas.inside(at, ShapeKind::Number, format!(in alloc; "{number}")?)
 }
 
 // Draws from the earlier operation to the later one.
@@ -129,8 +132,8 @@ fn draw_arc(
             .saturating_add(first.x.abs_diff(second.x) / 2),
         y: from.y,
     };
-    let form = Form::Bend(from, middle.up(height.saturating_mul(2)), to);
-    canvas.shape(form, hued(Kind::Arc, numbered.hue))?;
+    let form = ShapeForm::Bend(from, middle.up(height.saturating_mul(2)), to);
+    canvas.shape(form, hued(ShapeKind::Arc, numbered.hue))?;
     draw_number(alloc, canvas, numbered, middle.up(height))
 }
 
@@ -145,8 +148,8 @@ fn draw_reach(
     let (Some(from), Some(to)) = (operation, place) else {
         return Ok(());
     };
-    let form = Form::Line(from.by(0, HALF_HEIGHT), to.up(down));
-    canvas.shape(form, hued(Kind::Reach, hue))
+    let form = ShapeForm::Line(from.by(0, HALF_HEIGHT), to.up(down));
+    canvas.shape(form, hued(ShapeKind::Reach, hue))
 }
 
 // Draws where the Write is missing.
@@ -159,11 +162,14 @@ fn draw_gap(
 ) -> Result<(), AllocError> {
     let (origin, seq) = (wid.origin.index, wid.seq);
     let low = at.by(0, along(GAP, LANE, numbered.below));
-    canvas.shape(Form::Line(at.up(GAP), low), hued(Kind::Gap, numbered.hue))?;
+    canvas.shape(
+        ShapeForm::Line(at.up(GAP), low),
+        hued(ShapeKind::Gap, numbered.hue),
+    )?;
     draw_number(alloc, canvas, numbered, low.by(0, 6))?;
     canvas.label(
         low.by(12, 10),
-        hued(Kind::Told, numbered.hue),
+        hued(ShapeKind::Told, numbered.hue),
         format!(in alloc; "no {origin}:{seq} here")?,
     )
 }
@@ -177,10 +183,10 @@ fn draw_rings(
 ) -> Result<(), AllocError> {
     let (hue, by) = (numbered.hue, along(RING, RING, numbered.round % RINGS));
     if let Some(at) = write {
-        canvas.ringed(at, hued(Kind::Ring, hue), by)?;
+        canvas.ringed(at, hued(ShapeKind::Ring, hue), by)?;
     }
     match there {
-        Some(at) if there != write => canvas.ringed(at, hued(Kind::LateRing, hue), by),
+        Some(at) if there != write => canvas.ringed(at, hued(ShapeKind::LateRing, hue), by),
         _ => Ok(()),
     }
 }
@@ -198,10 +204,10 @@ fn draw_told(
     draw_number(alloc, canvas, numbered, at.by(8, 0))?;
     canvas.label(
         at.by(24, 4),
-        hued(Kind::Told, numbered.hue),
+        hued(ShapeKind::Told, numbered.hue),
         title.as_str().trim().to_string(alloc)?,
     )?;
-    canvas.words(at.by(24, 20), Kind::Note, sentence.as_str().trim())
+    canvas.words(at.by(24, 20), ShapeKind::Note, sentence.as_str().trim())
 }
 
 // Draws a breach.

@@ -1,5 +1,5 @@
 //! Shapes, one after another.
-use crate::shape::{Form, Kind, Point, Shape, Style};
+use crate::shape::{DrawnShape, Point, ShapeForm, ShapeKind, Style};
 use bayou_explain::shown_line;
 use std::alloc::{AllocError, Global};
 
@@ -16,7 +16,7 @@ const BASE: u32 = 4;
 #[derive(Drop)]
 pub(crate) struct Canvas {
     pub(crate) alloc: Global,
-    pub(crate) shapes: Vec<Shape>,
+    pub(crate) shapes: Vec<DrawnShape>,
 }
 
 /// A text from outside as it is drawn: cut, and with no character that may not stand in XML.
@@ -32,12 +32,12 @@ pub(crate) fn drawable(alloc: Global, bytes: &[u8]) -> Result<String, AllocError
 }
 
 /// A kind with no colour of its own.
-pub(crate) fn plain(kind: Kind) -> Style {
+pub(crate) fn plain(kind: ShapeKind) -> Style {
     Style { kind, hue: None }
 }
 
 /// A kind in a colour.
-pub(crate) fn hued(kind: Kind, hue: u8) -> Style {
+pub(crate) fn hued(kind: ShapeKind, hue: u8) -> Style {
     Style {
         kind,
         hue: Some(hue),
@@ -55,16 +55,16 @@ impl Canvas {
     /// Adds a shape, with what is shown where a reader points at it.
     pub(crate) fn hinted(
         &mut self,
-        form: Form,
+        form: ShapeForm,
         style: Style,
         hint: String,
     ) -> Result<(), AllocError> {
-        self.shapes.push(Shape { form, style, hint })?;
+        self.shapes.push(DrawnShape { form, style, hint })?;
         Ok(())
     }
 
     /// Adds a shape.
-    pub(crate) fn shape(&mut self, form: Form, style: Style) -> Result<(), AllocError> {
+    pub(crate) fn shape(&mut self, form: ShapeForm, style: Style) -> Result<(), AllocError> {
         let hint = String::new(self.alloc);
         self.hinted(form, style, hint)
     }
@@ -76,11 +76,16 @@ impl Canvas {
         style: Style,
         text: String,
     ) -> Result<(), AllocError> {
-        self.shape(Form::Label(at, text), style)
+        self.shape(ShapeForm::Label(at, text), style)
     }
 
     /// Adds a text of the program's own.
-    pub(crate) fn words(&mut self, at: Point, kind: Kind, text: &str) -> Result<(), AllocError> {
+    pub(crate) fn words(
+        &mut self,
+        at: Point,
+        kind: ShapeKind,
+        text: &str,
+    ) -> Result<(), AllocError> {
         let text = text.to_string(self.alloc)?;
         self.label(at, plain(kind), text)
     }
@@ -96,7 +101,7 @@ impl Canvas {
             x: middle.x.saturating_sub(HALF_WIDTH),
             y: middle.y.saturating_sub(HALF_HEIGHT),
         };
-        let form = Form::Box(
+        let form = ShapeForm::Box(
             corner,
             HALF_WIDTH.saturating_mul(2),
             HALF_HEIGHT.saturating_mul(2),
@@ -119,7 +124,7 @@ impl Canvas {
             x: middle.x.saturating_sub(width),
             y: middle.y.saturating_sub(height),
         };
-        let form = Form::Box(corner, width.saturating_mul(2), height.saturating_mul(2));
+        let form = ShapeForm::Box(corner, width.saturating_mul(2), height.saturating_mul(2));
         self.shape(form, style)
     }
 
@@ -127,7 +132,7 @@ impl Canvas {
     pub(crate) fn inside(
         &mut self,
         middle: Point,
-        kind: Kind,
+        kind: ShapeKind,
         text: String,
     ) -> Result<(), AllocError> {
         self.label(middle.by(0, BASE), plain(kind), text)
@@ -139,6 +144,6 @@ impl Canvas {
             x: width,
             y: from.y,
         };
-        self.shape(Form::Line(from, to), plain(Kind::Rail))
+        self.shape(ShapeForm::Line(from, to), plain(ShapeKind::Rail))
     }
 }

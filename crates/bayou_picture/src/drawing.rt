@@ -1,12 +1,12 @@
 //! A picture before it is a text.
-use crate::shape::Shape;
+use crate::shape::DrawnShape;
 use bayou_judge::Breach;
 
 /// A breach as it is drawn.
 #[derive(Debug, Drop)]
 pub struct Drawn {
     pub breach: Breach,
-    pub shapes: Vec<Shape>,
+    pub shapes: Vec<DrawnShape>,
 }
 
 /// A picture: what is drawn below the breaches, and each breach.
@@ -14,6 +14,6 @@ pub struct Drawn {
 pub struct Drawing {
     pub width: u32,
     pub height: u32,
-    pub ground: Vec<Shape>,
+    pub ground: Vec<DrawnShape>,
     pub breaches: Vec<Drawn>,
 }

@@ -3,7 +3,7 @@ use crate::canvas::{Canvas, HALF_WIDTH, hued, plain};
 use crate::layout::{Layout, NAMES};
 use crate::marks::{Mark, Marks};
 use crate::operations::hint_of;
-use crate::shape::{Kind, Point};
+use crate::shape::{Point, ShapeKind};
 use bayou_base::SERVERS;
 use bayou_explain::Located;
 use bayou_text::AuditLine;
@@ -23,10 +23,14 @@ fn draw_server(
 ) -> Result<(), AllocError> {
     let at = Point { x: NAMES, y };
     canvas.rail(at.by(96, 0), width)?;
-    canvas.label(at, plain(Kind::Name), format!(in alloc; "server {server}")?)?;
+    canvas.label(
+        at,
+        plain(ShapeKind::Name),
+        format!(in alloc; "server {server}")?,
+    )?;
     canvas.label(
         at.by(0, 15),
-        plain(Kind::Note),
+        plain(ShapeKind::Note),
         format!(in alloc; "holds {held}")?,
     )
 }
@@ -70,11 +74,11 @@ fn draw_write(
     let (wid, number) = (write.wid(), mark.number);
     let (origin, seq) = (wid.origin.index, wid.seq);
     let hint = hint_of(alloc, line)?;
-    canvas.boxed(at, hued(Kind::Write, origin), hint)?;
-    canvas.inside(at, Kind::Inside, format!(in alloc; "{origin}:{seq}")?)?;
+    canvas.boxed(at, hued(ShapeKind::Write, origin), hint)?;
+    canvas.inside(at, ShapeKind::Inside, format!(in alloc; "{origin}:{seq}")?)?;
     canvas.label(
         at.left(HALF_WIDTH).up(ABOVE),
-        plain(Kind::Mark),
+        plain(ShapeKind::Mark),
         format!(in alloc; "{number}")?,
     )
 }

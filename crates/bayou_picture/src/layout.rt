@@ -2,7 +2,7 @@
 use crate::marks::{Mark, Marks};
 use crate::shape::Point;
 use bayou_base::{Entry, SERVERS, SESSIONS, ServerId};
-use bayou_explain::{Located, Shown};
+use bayou_explain::{Located, ShownLine};
 use bayou_text::AuditLine;
 use std::alloc::{AllocError, Global};
 
@@ -38,7 +38,7 @@ pub(crate) fn along(start: u32, step: u32, count: usize) -> u32 {
 
 /// Where the lines of sessions and of servers are.
 #[derive(Clone, Copy)]
-pub(crate) struct Rows {
+pub(crate) struct LineRows {
     /// The height at which each session's line is; `None` where it isn't drawn.
     pub(crate) sessions: [Option<u32>; SESSIONS],
     /// The same of each server.
@@ -52,7 +52,7 @@ pub(crate) struct Rows {
 /// Where everything stands.
 #[derive(Drop)]
 pub(crate) struct Layout {
-    pub(crate) rows: Rows,
+    pub(crate) rows: LineRows,
     /// Where each operation is.
     pub(crate) operations: Vec<Point>,
     /// Where each Write is.
@@ -108,7 +108,7 @@ fn sessions_drawn(lines: &[Located<'_>], marks: &Marks<'_>) -> [bool; SESSIONS] 
 }
 
 // The rows, one below another.
-fn rows_of(lines: &[Located<'_>], marks: &Marks<'_>, count: u8) -> Rows {
+fn rows_of(lines: &[Located<'_>], marks: &Marks<'_>, count: u8) -> LineRows {
     let drawn = sessions_drawn(lines, marks);
     let (above, below) = (lanes_of_sessions(marks), lanes_of_servers(marks));
     let mut sessions = [None; SESSIONS];
@@ -122,7 +122,7 @@ fn rows_of(lines: &[Located<'_>], marks: &Marks<'_>, count: u8) -> Rows {
     }
     let servers_from = from.saturating_add(BETWEEN);
     let (servers, told_from) = server_rows(&below, servers_from, count);
-    Rows {
+    LineRows {
         sessions,
         servers,
         servers_from,
@@ -154,7 +154,7 @@ fn operation_points(
     alloc: Global,
     lines: &[Located<'_>],
     marks: &Marks<'_>,
-    rows: &Rows,
+    rows: &LineRows,
 ) -> Result<Vec<Point>, AllocError> {
     let mut points = Vec::new(alloc);
     for (number, mark) in marks.operations.as_slice().iter().enumerate() {
@@ -175,7 +175,7 @@ fn write_points(
     alloc: Global,
     lines: &[Located<'_>],
     marks: &Marks<'_>,
-    rows: &Rows,
+    rows: &LineRows,
 ) -> Result<Vec<Point>, AllocError> {
     let mut points = Vec::new(alloc);
     let mut slots = [0usize; SERVERS];
@@ -239,7 +239,7 @@ impl Layout {
         &self,
         lines: &[Located<'_>],
         marks: &Marks<'_>,
-        shown: Option<Shown<'_>>,
+        shown: Option<ShownLine<'_>>,
     ) -> Option<Point> {
         point_of(lines, &marks.operations, &self.operations, shown?.at)
     }
@@ -249,7 +249,7 @@ impl Layout {
         &self,
         lines: &[Located<'_>],
         marks: &Marks<'_>,
-        shown: Option<Shown<'_>>,
+        shown: Option<ShownLine<'_>>,
     ) -> Option<Point> {
         point_of(lines, &marks.writes, &self.writes, shown?.at)
     }

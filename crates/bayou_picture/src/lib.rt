@@ -27,6 +27,6 @@ pub use drawing::{Drawing, Drawn};
 pub use escape::escaped_text_has_no_marks;
 pub use marks::{MAX_WHOLE, Mark, Marked, Marks, make_marks};
 pub use picture::{draw, picture_text};
-pub use seen::Seen;
-pub use shape::{Form, Kind, Point, Shape, Style};
+pub use seen::Amounts;
+pub use shape::{DrawnShape, Point, ShapeForm, ShapeKind, Style};
 pub use spelling::spell;

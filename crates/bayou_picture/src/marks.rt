@@ -3,7 +3,7 @@ ghost use Rattle.std.specs.Prelude.{◌≡◌, All, IfOk, OnOk};
 ghost use Rattle.bayou_explain.specs.Explained.{IsShown, breaches_of};
 ghost use Rattle.bayou_picture.specs.Marks.{breaches_marked, explained_of};
 
-use crate::seen::Seen;
+use crate::seen::Amounts;
 use crate::touched::{is_bad, later_wid, missing_at, touches};
 use bayou_base::Wid;
 use bayou_explain::{Explained, Located, explain};
@@ -43,7 +43,7 @@ pub struct Marks<'a> {
     /// What can't be true.
     pub bad: Option<BadEvidence>,
     /// How many operations and Writes there are.
-    pub seen: Seen,
+    pub seen: Amounts,
 }
 
 // The breach, with what is drawn of it beside the lines that show it.
@@ -108,8 +108,8 @@ fn add<'a>(
 }
 
 // All that there is, counted.
-fn count(lines: &[Located<'_>]) -> Seen {
-    let mut seen = Seen::new();
+fn count(lines: &[Located<'_>]) -> Amounts {
+    let mut seen = Amounts::new();
     for line in lines {
         let _ = seen.number(line);
     }
@@ -136,7 +136,7 @@ pub fn make_marks<'a>(
         seen: count(lines),
     };
     let is_whole = marks.seen.is_small();
-    let mut seen = Seen::new();
+    let mut seen = Amounts::new();
     for (at, line) in lines.iter().enumerate() {
         let number = seen.number(line);
         add(&mut marks, line, Mark { line: at, number }, is_whole)?;

@@ -2,7 +2,7 @@
 use crate::canvas::{Canvas, HALF_WIDTH, drawable, hued, plain};
 use crate::layout::{Layout, NAMES, entry_of};
 use crate::marks::{Mark, Marks};
-use crate::shape::{Kind, Point};
+use crate::shape::{Point, ShapeKind};
 use bayou_base::{Asks, Entry, SESSIONS, What};
 use bayou_explain::Located;
 use std::alloc::{AllocError, Global};
@@ -66,11 +66,15 @@ fn draw_session(
     canvas.rail(at.by(96, 0), width)?;
     canvas.label(
         at,
-        plain(Kind::Name),
+        plain(ShapeKind::Name),
         format!(in alloc; "session {session}")?,
     )?;
     if let Some(asks) = asks {
-        canvas.label(at.by(0, 15), plain(Kind::Note), asks_text(alloc, asks)?)?;
+        canvas.label(
+            at.by(0, 15),
+            plain(ShapeKind::Note),
+            asks_text(alloc, asks)?,
+        )?;
     }
     Ok(())
 }
@@ -105,16 +109,16 @@ fn draw_box(
     match &entry.what {
         What::Write(wid, _, _) => {
             let (origin, seq) = (wid.origin.index, wid.seq);
-            canvas.boxed(at, hued(Kind::Write, server), hint)?;
-            canvas.inside(at, Kind::Inside, format!(in alloc; "{origin}:{seq}")?)
+            canvas.boxed(at, hued(ShapeKind::Write, server), hint)?;
+            canvas.inside(at, ShapeKind::Inside, format!(in alloc; "{origin}:{seq}")?)
         }
         What::Read(_, _) => {
-            canvas.boxed(at, hued(Kind::Read, server), hint)?;
-            canvas.inside(at, Kind::InsideRead, "read".to_string(alloc)?)
+            canvas.boxed(at, hued(ShapeKind::Read, server), hint)?;
+            canvas.inside(at, ShapeKind::InsideRead, "read".to_string(alloc)?)
         }
         What::Refused => {
-            canvas.boxed(at, plain(Kind::Refused), hint)?;
-            canvas.inside(at, Kind::InsideRead, "no".to_string(alloc)?)
+            canvas.boxed(at, plain(ShapeKind::Refused), hint)?;
+            canvas.inside(at, ShapeKind::InsideRead, "no".to_string(alloc)?)
         }
     }
 }
@@ -134,12 +138,12 @@ fn draw_operation(
     draw_box(alloc, canvas, line, entry, at)?;
     canvas.label(
         at.left(HALF_WIDTH).up(ABOVE),
-        plain(Kind::Mark),
+        plain(ShapeKind::Mark),
         format!(in alloc; "{place}")?,
     )?;
     canvas.label(
         at.left(HALF_WIDTH).by(0, BELOW),
-        plain(Kind::Mark),
+        plain(ShapeKind::Mark),
         format!(in alloc; "at {server}")?,
     )
 }

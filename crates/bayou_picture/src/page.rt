@@ -2,7 +2,7 @@
 use crate::canvas::{Canvas, drawable, hued, plain};
 use crate::layout::{Layout, NAMES};
 use crate::marks::Marks;
-use crate::shape::{Form, Kind, Point};
+use crate::shape::{Point, ShapeForm, ShapeKind};
 use crate::touched::is_bad;
 use bayou_explain::{Located, explain_forged, reason_line};
 use bayou_judge::BadEvidence;
@@ -68,7 +68,7 @@ pub(crate) fn draw_reason(
         y: layout.rows.told_from.saturating_sub(30),
     };
     let reason = reason_of(lines, bad).trim().to_string(canvas.alloc)?;
-    canvas.label(at, hued(Kind::Told, 16), reason)
+    canvas.label(at, hued(ShapeKind::Told, 16), reason)
 }
 
 /// Draws the ground, and the headings.
@@ -82,15 +82,26 @@ pub(crate) fn draw_headings(
 ) -> Result<(), AllocError> {
     let corner = Point { x: 0, y: 0 };
     let at = Point { x: NAMES, y: 26 };
-    canvas.shape(Form::Box(corner, layout.width, height), plain(Kind::Ground))?;
-    canvas.label(at, plain(Kind::Heading), drawable(alloc, name.as_bytes())?)?;
-    canvas.label(at.by(0, 20), plain(Kind::Note), extent(alloc, marks)?)?;
+    canvas.shape(
+        ShapeForm::Box(corner, layout.width, height),
+        plain(ShapeKind::Ground),
+    )?;
+    canvas.label(
+        at,
+        plain(ShapeKind::Heading),
+        drawable(alloc, name.as_bytes())?,
+    )?;
+    canvas.label(at.by(0, 20), plain(ShapeKind::Note), extent(alloc, marks)?)?;
     if let Some(bad) = marks.bad {
-        canvas.label(at.by(0, 38), hued(Kind::Told, 16), bad_text(alloc, bad)?)?;
+        canvas.label(
+            at.by(0, 38),
+            hued(ShapeKind::Told, 16),
+            bad_text(alloc, bad)?,
+        )?;
     }
     canvas.words(
         at.by(0, 58),
-        Kind::Note,
+        ShapeKind::Note,
         "Sessions: what each did, in the order of the file. Above a box its place in the session, below it the server.",
     )?;
     let servers = Point {
@@ -99,7 +110,7 @@ pub(crate) fn draw_headings(
     };
     canvas.words(
         servers,
-        Kind::Note,
+        ShapeKind::Note,
         "Servers: what each holds, in order of receipt. Above a box its place, from 0 on. Its colour is the server's that accepted the Write.",
     )
 }
@@ -119,7 +130,7 @@ pub(crate) fn draw_legend(
     };
     canvas.words(
         at,
-        Kind::Note,
+        ShapeKind::Note,
         "A breach: an arc from its earlier operation to the later one; a ring round the Write, a broken ring where it came too late; a bar where it is missing.",
     )
 }
@@ -144,7 +155,7 @@ pub(crate) fn draw_bad(
     for (mark, at) in all.zip(points) {
         if let Some(line) = lines.get(mark.line) {
             if is_bad(marks.bad, line, mark.number) {
-                canvas.ringed(*at, plain(Kind::Wrong), 3)?;
+                canvas.ringed(*at, plain(ShapeKind::Wrong), 3)?;
             }
         }
     }

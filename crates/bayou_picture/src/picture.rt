@@ -12,7 +12,7 @@ use crate::layout::{Layout, along, lay_out};
 use crate::marks::{Marks, make_marks};
 use crate::operations::{draw_operations, draw_sessions};
 use crate::page::{draw_bad, draw_headings, draw_legend, draw_reason};
-use crate::shape::Shape;
+use crate::shape::DrawnShape;
 use crate::spelling::spell;
 use bayou_explain::Located;
 use bayou_judge::{BadEvidence, Surveyed};
@@ -26,7 +26,7 @@ fn ground(
     marks: &Marks<'_>,
     layout: &Layout,
     height: u32,
-) -> Result<Vec<Shape>, AllocError> {
+) -> Result<Vec<DrawnShape>, AllocError> {
     let mut canvas = Canvas::new(alloc);
     draw_headings(alloc, &mut canvas, name, marks, layout, height)?;
     draw_sessions(alloc, &mut canvas, lines, marks, layout)?;

@@ -6,15 +6,15 @@ use bayou_text::AuditLine;
 
 /// How many entries there are, and how many Writes each server holds.
 #[derive(Clone, Copy, Debug)]
-pub struct Seen {
+pub struct Amounts {
     pub entries: usize,
     pub held: [usize; SERVERS],
 }
 
-impl Seen {
+impl Amounts {
     /// Nothing was seen yet.
-    pub(crate) fn new() -> Seen {
-        Seen {
+    pub(crate) fn new() -> Amounts {
+        Amounts {
             entries: 0,
             held: [0; SERVERS],
         }

@@ -35,7 +35,7 @@ impl Point {
 
 /// What a shape stands for.
 #[derive(Clone, Copy, Debug, PartialEq, Eq)]
-pub enum Kind {
+pub enum ShapeKind {
     /// The ground of the whole.
     Ground,
     /// The line of a session or of a server.
@@ -79,13 +79,13 @@ pub enum Kind {
 /// How a shape looks: what it stands for, and its colour, if it has one of its own.
 #[derive(Clone, Copy, Debug, PartialEq, Eq)]
 pub struct Style {
-    pub kind: Kind,
+    pub kind: ShapeKind,
     pub hue: Option<u8>,
 }
 
 /// The form of a shape.
 #[derive(Debug, Drop)]
-pub enum Form {
+pub enum ShapeForm {
     /// A line from one place to another.
     Line(Point, Point),
     /// A box: its upper left corner, its width and its height.
@@ -100,8 +100,8 @@ pub enum Form {
 
 /// A shape, and what is shown of it where a reader points at it; nothing where that is empty.
 #[derive(Debug, Drop)]
-pub struct Shape {
-    pub form: Form,
+pub struct DrawnShape {
+    pub form: ShapeForm,
     pub style: Style,
     pub hint: String,
 }

@@ -4,7 +4,7 @@ ghost use Rattle.bayou_picture.specs.Spelling.{attributes, bend_text, class_text
 
 use crate::drawing::{Drawing, Drawn};
 use crate::escape::push_escaped;
-use crate::shape::{Form, Kind, Point, Shape, Style};
+use crate::shape::{DrawnShape, Point, ShapeForm, ShapeKind, Style};
 use bayou_judge::{Breach, Guarantee};
 use std::alloc::{AllocError, Global};
 
@@ -48,29 +48,29 @@ text.told{stroke:none;font-weight:600}
 "#;
 
 /// The word of a kind.
-fn word_of(kind: Kind) -> &'static str
+fn word_of(kind: ShapeKind) -> &'static str
     ensures { result.now ≡ kind_word kind }
 {
     match kind {
-        Kind::Ground => "ground",
-        Kind::Rail => "rail",
-        Kind::Heading => "heading",
-        Kind::Name => "name",
-        Kind::Note => "note",
-        Kind::Mark => "mark",
-        Kind::Write => "write",
-        Kind::Inside => "inside",
-        Kind::Read => "read",
-        Kind::InsideRead => "inside-read",
-        Kind::Refused => "refused",
-        Kind::Wrong => "wrong",
-        Kind::Arc => "arc",
-        Kind::Reach => "reach",
-        Kind::Ring => "ring",
-        Kind::LateRing => "late-ring",
-        Kind::Gap => "gap",
-        Kind::Number => "number",
-        Kind::Told => "told",
+        ShapeKind::Ground => "ground",
+        ShapeKind::Rail => "rail",
+        ShapeKind::Heading => "heading",
+        ShapeKind::Name => "name",
+        ShapeKind::Note => "note",
+        ShapeKind::Mark => "mark",
+        ShapeKind::Write => "write",
+        ShapeKind::Inside => "inside",
+        ShapeKind::Read => "read",
+        ShapeKind::InsideRead => "inside-read",
+        ShapeKind::Refused => "refused",
+        ShapeKind::Wrong => "wrong",
+        ShapeKind::Arc => "arc",
+        ShapeKind::Reach => "reach",
+        ShapeKind::Ring => "ring",
+        ShapeKind::LateRing => "late-ring",
+        ShapeKind::Gap => "gap",
+        ShapeKind::Number => "number",
+        ShapeKind::Told => "told",
     }
 }
 
@@ -94,15 +94,15 @@ fn class(alloc: Global, style: Style) -> Result<String, AllocError>
 }
 
 // What the form is called.
-fn tag(form: &Form) -> &'static str
+fn tag(form: &ShapeForm) -> &'static str
     ensures { result.now ≡ tag_of form.now }
 {
     match form {
-        Form::Line(_, _) => "line",
-        Form::Box(_, _, _) => "rect",
-        Form::Disc(_, _) => "circle",
-        Form::Bend(_, _, _) => "path",
-        Form::Label(_, _) => "text",
+        ShapeForm::Line(_, _) => "line",
+        ShapeForm::Box(_, _, _) => "rect",
+        ShapeForm::Disc(_, _) => "circle",
+        ShapeForm::Bend(_, _, _) => "path",
+        ShapeForm::Label(_, _) => "text",
     }
 }
 
@@ -125,24 +125,24 @@ fn bend(alloc: Global, from: Point, towards: Point, to: Point) -> Result<String,
 }
 
 // Where the form is.
-fn place(alloc: Global, form: &Form) -> Result<String, AllocError>
+fn place(alloc: Global, form: &ShapeForm) -> Result<String, AllocError>
     ensures { IfOk result (λ text. string_bytes text ≡ attributes form.now) }
 {
     match form {
-        Form::Line(from, to) => {
+        ShapeForm::Line(from, to) => {
             let (x1, y1, x2, y2) = (from.x, from.y, to.x, to.y);
             format!(in alloc; " x1=\"{x1}\" y1=\"{y1}\" x2=\"{x2}\" y2=\"{y2}\"")
         }
-        Form::Box(corner, width, height) => {
+        ShapeForm::Box(corner, width, height) => {
             let (x, y) = (corner.x, corner.y);
             format!(in alloc; " x=\"{x}\" y=\"{y}\" width=\"{width}\" height=\"{height}\" rx=\"4\"")
         }
-        Form::Disc(center, radius) => {
+        ShapeForm::Disc(center, radius) => {
             let (x, y) = (center.x, center.y);
             format!(in alloc; " cx=\"{x}\" cy=\"{y}\" r=\"{radius}\"")
         }
-        Form::Bend(from, towards, to) => bend(alloc, *from, *towards, *to),
-        Form::Label(at, _) => {
+        ShapeForm::Bend(from, towards, to) => bend(alloc, *from, *towards, *to),
+        ShapeForm::Label(at, _) => {
             let (x, y) = (at.x, at.y);
             format!(in alloc; " x=\"{x}\" y=\"{y}\"")
         }
@@ -150,7 +150,7 @@ fn place(alloc: Global, form: &Form) -> Result<String, AllocError>
 }
 
 // The beginning of a shape.
-fn front(alloc: Global, shape: &Shape) -> Result<String, AllocError>
+fn front(alloc: Global, shape: &DrawnShape) -> Result<String, AllocError>
     ensures { IfOk result (λ text. string_bytes text ≡ codes "<" ++ (tag_of shape.now.form ++ (class_text shape.now.style ++ (attributes shape.now.form ++ codes ">")))) }
 {
     let tag = tag(&shape.form);
@@ -172,17 +172,20 @@ fn push_hint(text: &mut Vec<u8>, hint: &str) -> Result<(), AllocError>
 }
 
 // Adds the text of a label.
-fn push_content(text: &mut Vec<u8>, form: &Form) -> Result<(), AllocError>
+fn push_content(text: &mut Vec<u8>, form: &ShapeForm) -> Result<(), AllocError>
     ensures { OnOk result (text.new.items ≡ text.old.items ++ content form.now) }
 {
     match form {
-        Form::Label(_, label) => push_escaped(text, label.as_bytes()),
-        Form::Line(_, _) | Form::Box(_, _, _) | Form::Disc(_, _) | Form::Bend(_, _, _) => Ok(()),
+        ShapeForm::Label(_, label) => push_escaped(text, label.as_bytes()),
+        ShapeForm::Line(_, _)
+        | ShapeForm::Box(_, _, _)
+        | ShapeForm::Disc(_, _)
+        | ShapeForm::Bend(_, _, _) => Ok(()),
     }
 }
 
 // Adds a shape.
-fn push_shape(alloc: Global, text: &mut Vec<u8>, shape: &Shape) -> Result<(), AllocError>
+fn push_shape(alloc: Global, text: &mut Vec<u8>, shape: &DrawnShape) -> Result<(), AllocError>
     ensures { OnOk result (text.new.items ≡ text.old.items ++ shape_text shape.now) }
 {
     let front = front(alloc, shape)?;
@@ -195,7 +198,7 @@ fn push_shape(alloc: Global, text: &mut Vec<u8>, shape: &Shape) -> Result<(), Al
 }
 
 // Adds shapes, one after another.
-fn push_shapes(alloc: Global, text: &mut Vec<u8>, shapes: &[Shape]) -> Result<(), AllocError>
+fn push_shapes(alloc: Global, text: &mut Vec<u8>, shapes: &[DrawnShape]) -> Result<(), AllocError>
     ensures { OnOk result (text.new.items ≡ text.old.items ++ shapes_text shapes.now) }
 {
     for shape in shapes {

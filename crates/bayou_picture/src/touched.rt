@@ -1,7 +1,7 @@
 //! Which lines a breach touches, and where its Write is missing.
 use crate::marks::Marked;
 use bayou_base::{Entry, ServerId, What, Wid};
-use bayou_explain::{Located, Shown};
+use bayou_explain::{Located, ShownLine};
 use bayou_judge::{BadEvidence, Breach};
 use bayou_text::AuditLine;
 
@@ -59,7 +59,7 @@ pub(crate) fn missing_at(lines: &[Located<'_>], breach: &Breach) -> Option<usize
 }
 
 // Whether it is this line.
-fn is_at(shown: Option<Shown<'_>>, at: usize) -> bool {
+fn is_at(shown: Option<ShownLine<'_>>, at: usize) -> bool {
     match shown {
         Some(shown) => shown.at == at,
         None => false,

@@ -4,8 +4,8 @@ use Rattle.std.specs.List.{AllZip}
 use Rattle.std.proofs.lemmas.List.{take_more}
 use denote.Ref.{Bor}
 use Rattle.bayou_renew.specs.Words.{Refuses, RefusesPrefixes, SaysNoPrefix}
-use Rattle.bayou_renew.specs.declared.plan.PlanFault.{PlanFault}
-use Rattle.bayou_renew.specs.declared.plan.PlanFault.TheVariants.{NoServer, LeftOut, NoCounts, NoPrefix, SameFolder, OutOfMemory}
+use Rattle.bayou_renew.specs.declared.plan.RenewalPlanFault.{RenewalPlanFault}
+use Rattle.bayou_renew.specs.declared.plan.RenewalPlanFault.TheVariants.{NoServer, LeftOut, NoCounts, NoPrefix, SameFolder, OutOfMemory}
 
 zip_push : {A B : Type 0} (R : A → B → Type 0) (xs : List A) (ys : List B) (x : A) (y : B) → AllZip R xs ys → R x y → AllZip R (xs ++ x ∷ []) (ys ++ y ∷ [])
 zip_push R [] [] x y all one = (one, tt)
@@ -39,7 +39,7 @@ pub none_said : (words : List (Bor (List ℕ))) (at : ℕ) (d : Bor (List ℕ)) 
 none_said words at d within none = ((get_or words at d).now, contains_text words at d within, none)
 
 -- and so no plan is made of them
-pub refused_for : (id servers servers_then : ℕ) (words : List (List ℕ)) (fault : PlanFault) → RefusesPrefixes words fault → Refuses id servers servers_then words fault
+pub refused_for : (id servers servers_then : ℕ) (words : List (List ℕ)) (fault : RenewalPlanFault) → RefusesPrefixes words fault → Refuses id servers servers_then words fault
 refused_for id servers servers_then words NoPrefix is = is
 refused_for id servers servers_then words OutOfMemory is = tt
 refused_for id servers servers_then words NoServer is = absurd is

@@ -13,8 +13,8 @@ use Rattle.bayou_renew.specs.declared.fault.ReadingFault.{ReadingFault}
 use Rattle.bayou_renew.specs.declared.fault.ReadingFault.TheVariants.{Device, Damaged, NotAJournal, OtherServer, BadRecord, Gap, LogFull, Memory}
 use Rattle.bayou_renew.specs.declared.fault.RenewFault.{RenewFault}
 use Rattle.bayou_renew.specs.declared.fault.RenewFault.TheVariants.{Unread, Elsewhere, TooMany, OutOfMemory}
-use Rattle.bayou_renew.specs.declared.plan.Plan.{Plan}
-use Rattle.bayou_renew.specs.declared.plan.Wish.{Wish}
+use Rattle.bayou_renew.specs.declared.plan.RenewalPlan.{RenewalPlan}
+use Rattle.bayou_renew.specs.declared.plan.RenewalWish.{RenewalWish}
 use Rattle.bayou_server.specs.Server.{Core, IsUp, ServerState}
 use Rattle.bayou_server.specs.Starts.{FailsToStart, Starts, StartsOn}
 use Rattle.bayou_server.specs.declared.fault.JournalFault.TheVariants as journals
@@ -52,7 +52,7 @@ pub record IsNoJournal {D : Type 0} (d : Ghosts D) (damage : D → Option Damage
 
 -- The Writes are what is wanted of those that an old server holds: its database, less what is left out, as Writes of one server alone, and no more of
 -- them than there may be.
-pub record AreRenewed (wish : Wish) (old new : List Write) : Type 0 where
+pub record AreRenewed (wish : RenewalWish) (old new : List Write) : Type 0 where
   pub at : count_of old ≡ wish.at
   pub made : AreMadeOf [] (kept_rows wish.without.items (replay old)) new
   pub database : IsWithout wish.without.items (replay old) (replay new)
@@ -64,7 +64,7 @@ abbrev pub TakesWrites : (rows writes : ℕ) → Type 0
 TakesWrites rows writes = (rows ≤ MAX_OPS * writes) × (MAX_OPS * writes < rows + MAX_OPS)
 
 -- Why the Writes aren't made of those that an old server holds: it holds something else, or they were too many. Memory may run out.
-abbrev pub AreNotRenewed : Wish → List Write → RenewFault → Type 0
+abbrev pub AreNotRenewed : RenewalWish → List Write → RenewFault → Type 0
 AreNotRenewed wish old (Elsewhere held) = (held ≡ count_of old) × (held ≢ wish.at)
 AreNotRenewed wish old (TooMany number) = (count_of old ≡ wish.at) × TakesWrites (length (kept_rows wish.without.items (replay old))) number × (wish.most < number)
 AreNotRenewed wish old OutOfMemory = Unit {0}
@@ -75,14 +75,14 @@ abbrev pub digest : List Write → ℕ
 digest writes = short (digest_of (map write_bytes writes))
 
 -- the rows are what is wanted of those that a journal of these bytes tells, of a server that holds what it must
-pub record AreRowsOf {D : Type 0} (d : Ghosts D) (plan : Plan) (bytes : List ℕ) (rows : List Row) : Type 0 where
+pub record AreRowsOf {D : Type 0} (d : Ghosts D) (plan : RenewalPlan) (bytes : List ℕ) (rows : List Row) : Type 0 where
   pub server : ServerState D
   pub copy : IsOnCopy d plan.id.index plan.servers bytes server
   pub at : count_of server.core.held ≡ plan.wish.at
   pub are : rows ≡ kept_rows plan.wish.without.items (replay server.core.held)
 
 -- Why a journal of these bytes isn't renewed: it isn't read, and a call of its device failed, or it is none; or it tells what can't be renewed.
-abbrev pub IsNotRenewed : {D : Type 0} → Ghosts D → (D → Option Damage) → (has_failed : Type 0) → Plan → (bytes : List ℕ) → RenewFault → Type 0
+abbrev pub IsNotRenewed : {D : Type 0} → Ghosts D → (D → Option Damage) → (has_failed : Type 0) → RenewalPlan → (bytes : List ℕ) → RenewFault → Type 0
 IsNotRenewed {D} d damage has_failed plan bytes (Unread fault) = (fault ≡ Memory) ⊎ ((fault ≡ Device) × has_failed) ⊎ IsNoJournal d damage plan.id.index plan.servers bytes fault
 IsNotRenewed {D} d damage has_failed plan bytes (Elsewhere held) =
     (server : ServerState D) × IsOnCopy d plan.id.index plan.servers bytes server × AreNotRenewed plan.wish server.core.held (Elsewhere held)
@@ -92,7 +92,7 @@ IsNotRenewed {D} d damage has_failed plan bytes OutOfMemory = Unit {0}
 
 -- The plan's server in the new store is up, and holds what is wanted of what a journal of these bytes tells; so many keys its database has, and this is
 -- the digest of its Writes.
-pub record IsRenewed {D : Type 0} (d : Ghosts D) (plan : Plan) (bytes : List ℕ) (core : Core) (keys told : ℕ) : Type 0 where
+pub record IsRenewed {D : Type 0} (d : Ghosts D) (plan : RenewalPlan) (bytes : List ℕ) (core : Core) (keys told : ℕ) : Type 0 where
   pub server : ServerState D
   pub copy : IsOnCopy d plan.id.index plan.servers bytes server
   pub renewed : AreRenewed plan.wish server.core.held core.held

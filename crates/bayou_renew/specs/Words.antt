@@ -2,8 +2,8 @@
 use Rattle.std.specs.Prelude.{◌≡◌, ◌≢◌, ◌/◌, ◌<◌, ◌≤◌, ◌⊎◌, [], ℕ, Bool, Contains, List, None, if◌then◌else◌}
 use Rattle.bayou_base.specs.declared.limits.TheConstants.{MAX_WRITES}
 use Rattle.bayou_base.specs.Key.{prefix_fault}
-use Rattle.bayou_renew.specs.declared.plan.PlanFault.{PlanFault}
-use Rattle.bayou_renew.specs.declared.plan.PlanFault.TheVariants.{NoServer, LeftOut, NoCounts, NoPrefix, SameFolder, OutOfMemory}
+use Rattle.bayou_renew.specs.declared.plan.RenewalPlanFault.{RenewalPlanFault}
+use Rattle.bayou_renew.specs.declared.plan.RenewalPlanFault.TheVariants.{NoServer, LeftOut, NoCounts, NoPrefix, SameFolder, OutOfMemory}
 
 -- the word is of a prefix, and not empty
 abbrev pub SaysPrefix : (word prefix : List ℕ) → Type 0
@@ -17,13 +17,13 @@ abbrev pub most_of : Bool → ℕ
 most_of is_full = if is_full then MAX_WRITES else MAX_WRITES / 2
 
 -- why words say no prefixes: one of them says none
-abbrev pub RefusesPrefixes : List (List ℕ) → PlanFault → Type 0
+abbrev pub RefusesPrefixes : List (List ℕ) → RenewalPlanFault → Type 0
 RefusesPrefixes words NoPrefix = (word : List ℕ) × Contains words word × SaysNoPrefix word
 RefusesPrefixes words OutOfMemory = Unit {0}
 RefusesPrefixes words _ = ⊥
 
 -- why the words make no plan, where memory sufficed and a folder isn't named twice
-abbrev pub Refuses : (id servers servers_then : ℕ) → (without : List (List ℕ)) → PlanFault → Type 0
+abbrev pub Refuses : (id servers servers_then : ℕ) → (without : List (List ℕ)) → RenewalPlanFault → Type 0
 Refuses id servers servers_then without NoServer = servers ≤ id
 Refuses id servers servers_then without LeftOut = servers_then ≤ id
 Refuses id servers servers_then without NoCounts = (id < servers) × (id < servers_then)

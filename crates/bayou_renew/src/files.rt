@@ -2,7 +2,7 @@
 ghost use Rattle.std.specs.Prelude.{◌<◌};
 
 use crate::fault::{ReadingFault, RenewFault, WritingFault};
-use crate::plan::Plan;
+use crate::plan::RenewalPlan;
 use crate::renewing::{Renewed, put_journal, renew};
 use bayou_device::FileDevice;
 use std::alloc::{AllocError, Global};
@@ -12,7 +12,7 @@ use std::io::ErrorKind;
 
 /// Where the journals are.
 #[derive(Clone, Copy, Debug)]
-pub struct Paths<'a> {
+pub struct RenewalPaths<'a> {
     pub old: &'a str,
     pub new: &'a str,
 }
@@ -106,8 +106,8 @@ fn give_name<T: Files<File = File>>(
 pub fn renew_journal<T: Files<File = File>>(
     rt: &T,
     alloc: Global,
-    plan: &Plan,
-    paths: Paths<'_>,
+    plan: &RenewalPlan,
+    paths: RenewalPaths<'_>,
     run: u32,
 ) -> Result<Renewed, NotRenewed>
     requires { 0 < run }

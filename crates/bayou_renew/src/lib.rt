@@ -18,8 +18,8 @@ pub mod rows;
 pub mod writes;
 
 pub use fault::{ReadingFault, RenewFault, WritingFault};
-pub use files::{NotRenewed, Paths, renew_journal};
-pub use plan::{Plan, PlanFault, Wish};
+pub use files::{NotRenewed, RenewalPaths, renew_journal};
+pub use plan::{RenewalPlan, RenewalPlanFault, RenewalWish};
 pub use renewing::{Renewed, put_journal, renew};
 pub use rows::kept_rows_of;
 pub use writes::{number_of, writes_of};

@@ -2,7 +2,7 @@
 ghost use Rattle.std.specs.Prelude.{◌≡◌, ◌<◌, ◌≤◌, Err, IfErr, IfNone, IfOk, IfSome, map};
 ghost use Rattle.std.specs.List.{AllZip};
 ghost use Rattle.bayou_renew.specs.Words.{Refuses, RefusesPrefixes, SaysNoPrefix, SaysPrefix, most_of};
-ghost use Rattle.bayou_renew.specs.declared.plan.PlanFault.TheVariants.{LeftOut, NoServer};
+ghost use Rattle.bayou_renew.specs.declared.plan.RenewalPlanFault.TheVariants.{LeftOut, NoServer};
 ghost use Rattle.bayou_base.specs.declared.limits.TheConstants.{MAX_WRITES as MOST_WRITES, SERVERS as MOST_SERVERS};
 
 use bayou_base::{MAX_WRITES, Prefix, SERVERS, ServerId, Vector};
@@ -11,7 +11,7 @@ use thiserror::Error;
 
 /// What is wanted of the new store.
 #[derive(Drop)]
-pub struct Wish {
+pub struct RenewalWish {
     /// What the old server must hold.
     pub at: Vector,
     /// What the keys begin with that are left out.
@@ -23,18 +23,18 @@ pub struct Wish {
 
 /// A server whose database is renewed: which one, of how many, and of how many it is then.
 #[derive(Drop)]
-pub struct Plan {
+pub struct RenewalPlan {
     pub id: ServerId,
     pub servers: u8,
     pub servers_then: u8,
-    pub wish: Wish,
+    pub wish: RenewalWish,
     pub ghost among: { (id.index < servers) × (servers ≤ MOST_SERVERS) },
     pub ghost among_then: { (id.index < servers_then) × (servers_then ≤ MOST_SERVERS) },
 }
 
 /// Why the words of a command line make no plan.
 #[derive(Clone, Copy, Debug, PartialEq, Eq, Error)]
-pub enum PlanFault {
+pub enum RenewalPlanFault {
     #[error("--id is below --servers")]
     NoServer,
     #[error("--id is below --servers-then: a server that is left out isn't renewed")]
@@ -49,14 +49,14 @@ pub enum PlanFault {
     OutOfMemory,
 }
 
-impl From<AllocError> for PlanFault {
+impl From<AllocError> for RenewalPlanFault {
     ghost use Rattle.std.specs.Prelude.{◌≡◌};
-    ghost use Rattle.bayou_renew.specs.declared.plan.PlanFault.TheVariants.{OutOfMemory};
+    ghost use Rattle.bayou_renew.specs.declared.plan.RenewalPlanFault.TheVariants.{OutOfMemory};
 
     ghost from_gives = { λ _ fault. fault ≡ OutOfMemory };
 
-    fn from(_error: AllocError) -> PlanFault {
-        PlanFault::OutOfMemory
+    fn from(_error: AllocError) -> RenewalPlanFault {
+        RenewalPlanFault::OutOfMemory
     }
 }
 
@@ -92,17 +92,17 @@ fn prefix_of(word: &str) -> Option<Prefix>
 }
 
 // The prefixes that the words say.
-fn prefixes_of(alloc: Global, words: &[&str]) -> Result<Vec<Prefix>, PlanFault>
+fn prefixes_of(alloc: Global, words: &[&str]) -> Result<Vec<Prefix>, RenewalPlanFault>
     ensures said { IfOk result (λ prefixes. AllZip (λ word prefix. SaysPrefix word.now prefix) words.now prefixes.items) }
     ensures refused { IfErr result (RefusesPrefixes (map (λ word. word.now) words.now)) }
 {
     let mut prefixes = Vec::new(alloc);
     for word in words {
         let Some(prefix) = prefix_of(word) else {
-            return Err(PlanFault::NoPrefix);
+            return Err(RenewalPlanFault::NoPrefix);
         };
         if prefixes.push(prefix).is_err() {
-            return Err(PlanFault::OutOfMemory);
+            return Err(RenewalPlanFault::OutOfMemory);
         }
     }
     Ok(prefixes)
@@ -115,7 +115,7 @@ fn most_writes(is_full: bool) -> u32
     if is_full { MAX_WRITES } else { MAX_WRITES / 2 }
 }
 
-impl Plan {
+impl RenewalPlan {
     /// The plan to renew a server of this number among so many, as these words say; or the first of them that can't be done.
     pub fn new(
         alloc: Global,
@@ -125,7 +125,7 @@ impl Plan {
         at: &str,
         without: &[&str],
         is_full: bool,
-    ) -> Result<Plan, PlanFault>
+    ) -> Result<RenewalPlan, RenewalPlanFault>
         requires in_range { servers ≤ MOST_SERVERS }
         requires then_in_range { servers_then ≤ MOST_SERVERS }
         ensures whose { IfOk result (λ plan. (plan.id.index ≡ id) × (plan.servers ≡ servers) × (plan.servers_then ≡ servers_then)) }
@@ -136,21 +136,21 @@ impl Plan {
         ensures refused { IfErr result (Refuses id servers servers_then (map (λ word. word.now) without.now)) }
     {
         if id >= servers {
-            return Err(PlanFault::NoServer);
+            return Err(RenewalPlanFault::NoServer);
         }
         if id >= servers_then {
-            return Err(PlanFault::LeftOut);
+            return Err(RenewalPlanFault::LeftOut);
         }
         let Some(at) = counts_of(at, servers) else {
-            return Err(PlanFault::NoCounts);
+            return Err(RenewalPlanFault::NoCounts);
         };
         let without = match prefixes_of(alloc, without) {
             Ok(without) => without,
             Err(fault) => return Err(fault),
         };
         let most = most_writes(is_full);
-        let wish = Wish { at, without, most };
-        Ok(Plan {
+        let wish = RenewalWish { at, without, most };
+        Ok(RenewalPlan {
             id: ServerId { index: id },
             servers,
             servers_then,

@@ -14,7 +14,7 @@ ghost use Rattle.bayou_server.specs.Stored.{IsStored};
 use crate::copied::copied;
 use crate::digesting::digest_of;
 use crate::fault::RenewFault;
-use crate::plan::{Plan, Wish};
+use crate::plan::{RenewalPlan, RenewalWish};
 use crate::rows::kept_rows_of;
 use crate::writes::{MAKER, number_of, writes_of};
 use bayou_base::{Key, MAX_WRITES, ServerId, Value};
@@ -43,7 +43,7 @@ pub struct Renewed {
 fn rows_within<D: Device>(
     alloc: Global,
     server: &Server<D>,
-    wish: &Wish,
+    wish: &RenewalWish,
 ) -> Result<Vec<(Key, Value)>, RenewFault>
     ensures at { OnOk result (count_of server.now.core.held ≡ wish.now.at) }
     ensures rows { IfOk result (λ rows. rows.items ≡ kept_rows wish.now.without.items (replay server.now.core.held)) }
@@ -174,7 +174,7 @@ fn hold<N: Device>(
 // The server of the new store that the plan asks for, which holds the Writes that are made of these rows.
 fn server_of(
     alloc: Global,
-    plan: &Plan,
+    plan: &RenewalPlan,
     rows: &[(Key, Value)],
     run: u32,
 ) -> Result<Renewed, RenewFault>
@@ -204,7 +204,7 @@ fn server_of(
 // The rows that the new store gets of what the device has, which is read once and stays as it is.
 fn rows_on<D: Device>(
     alloc: Global,
-    plan: &Plan,
+    plan: &RenewalPlan,
     old: &mut D,
 ) -> Result<Vec<(Key, Value)>, RenewFault>
     ensures same { OnOk result (D.content old.new ≡ D.content old.old) }
@@ -225,7 +225,7 @@ fn rows_on<D: Device>(
 /// run; each other server takes them.
 pub fn renew<D: Device>(
     alloc: Global,
-    plan: &Plan,
+    plan: &RenewalPlan,
     old: &mut D,
     run: u32,
 ) -> Result<Renewed, RenewFault>

@@ -6,7 +6,7 @@ use Rattle.bayou_peer.specs.Pulls.{PullEnds}
 use Rattle.bayou_peer.specs.declared.pulling.PullStopped.{PullStopped}
 use Rattle.bayou_peer.specs.declared.pulling.Pulled.{Pulled as Counts}
 use Rattle.bayou_serve.specs.Visits.{VisitEnds, tells_loss}
-use Rattle.bayou_serve.specs.declared.visit.Outcome.{Outcome}
+use Rattle.bayou_serve.specs.declared.visit.VisitOutcome.{VisitOutcome}
 use Rattle.bayou_serve.specs.declared.visit.Visit.{Visit}
 use Rattle.bayou_serve.specs.declared.visit.Visit.TheVariants.{Pulled, Failed}
 
@@ -15,11 +15,11 @@ none_or_some zero = inl refl
 none_or_some (suc count) = inr (omega arith)
 
 -- by what the outcome is to be
-ends_so : (begun : Begun) (read : List ℕ) (is_end : Type 0) (outcome : Outcome) (visit : Visit) → outcome.visit ≡ visit → VisitEnds begun read is_end visit outcome.has_lost
+ends_so : (begun : Begun) (read : List ℕ) (is_end : Type 0) (outcome : VisitOutcome) (visit : Visit) → outcome.visit ≡ visit → VisitEnds begun read is_end visit outcome.has_lost
     → VisitEnds begun read is_end outcome.visit outcome.has_lost
 ends_so begun read is_end outcome visit is ends = subst (λ (v : Visit). VisitEnds begun read is_end v outcome.has_lost) (sym is) ends
 
-pub visit_ends : (begun : Begun) (read : List ℕ) (is_end : Type 0) (ended : Result Counts PullStopped) (outcome : Outcome) → PullEnds (node_ways begun) tt tt read is_end ended
+pub visit_ends : (begun : Begun) (read : List ℕ) (is_end : Type 0) (ended : Result Counts PullStopped) (outcome : VisitOutcome) → PullEnds (node_ways begun) tt tt read is_end ended
     → IfOk ended (λ pulled. (outcome.visit ≡ Pulled pulled) × (outcome.has_lost ≡ false))
     → IfErr ended (λ stopped. 0 < stopped.before.taken → outcome.visit ≡ Pulled stopped.before)
     → IfErr ended (λ stopped. stopped.before.taken ≡ 0 → outcome.visit ≡ Failed stopped.fault)

@@ -7,8 +7,8 @@ use Rattle.bayou_base.specs.declared.server.ServerId.{ServerId}
 use Rattle.bayou_serve.specs.Words.{AreNamed, IsApart, IsLeftOut, Refuses, RefusesBeginning, RefusesLeftOut, SaysNoneLeftOut, SaysPeer, SaysServer}
 use Rattle.bayou_serve.specs.declared.plan.Beginning.{Beginning}
 use Rattle.bayou_serve.specs.declared.plan.Peer.{Peer}
-use Rattle.bayou_serve.specs.declared.plan.PlanFault.{PlanFault}
-use Rattle.bayou_serve.specs.declared.plan.PlanFault.TheVariants.{NoServer, NoAddress, OpenToAnyone, NoPeer, SamePeer, TwoBeginnings, NoOther, NothingRestored, Unnamed, OutOfMemory}
+use Rattle.bayou_serve.specs.declared.plan.ServicePlanFault.{ServicePlanFault}
+use Rattle.bayou_serve.specs.declared.plan.ServicePlanFault.TheVariants.{NoServer, NoAddress, OpenToAnyone, NoPeer, SamePeer, TwoBeginnings, NoOther, NothingRestored, Unnamed, OutOfMemory}
 use Rattle.bayou_serve.proofs.Worded.{contains_text}
 
 -- what is said of each word is said of each text
@@ -56,7 +56,7 @@ named_more server at peers left_out before last number below other apart =
     below_or number at below = grind (arith, below)
 
 -- why words that leave servers out are refused
-pub refuses_left : (server servers : ℕ) (listen : List ℕ) (anyone : Bool) (words left_words : List (List ℕ)) (beginning : Beginning) (peers : List Peer) (fault : PlanFault)
+pub refuses_left : (server servers : ℕ) (listen : List ℕ) (anyone : Bool) (words left_words : List (List ℕ)) (beginning : Beginning) (peers : List Peer) (fault : ServicePlanFault)
     → AllZip SaysPeer words peers → RefusesLeftOut server servers peers left_words fault → Refuses server servers listen anyone words left_words beginning fault
 refuses_left server servers listen anyone words left_words beginning peers NoServer said why = absurd why
 refuses_left server servers listen anyone words left_words beginning peers NoAddress said why = absurd why
@@ -75,7 +75,7 @@ some_words [] (one ∷ left_out) said some = absurd said
 some_words (word ∷ words) left_out said some = λ none. absurd (cc)
 
 -- why a way to begin is refused
-pub refuses_begun : (server servers : ℕ) (listen : List ℕ) (anyone : Bool) (words left_words : List (List ℕ)) (beginning : Beginning) (peers : List Peer) (left_out : List ServerId) (fault : PlanFault)
+pub refuses_begun : (server servers : ℕ) (listen : List ℕ) (anyone : Bool) (words left_words : List (List ℕ)) (beginning : Beginning) (peers : List Peer) (left_out : List ServerId) (fault : ServicePlanFault)
     → AllZip SaysPeer words peers → AllZip SaysServer left_words left_out → RefusesBeginning server servers peers left_out beginning fault
     → Refuses server servers listen anyone words left_words beginning fault
 refuses_begun server servers listen anyone words left_words beginning peers left_out NoServer said left why = absurd why

@@ -9,8 +9,8 @@ use Rattle.bayou_lang.specs.declared.write.Write.{Write}
 use Rattle.bayou_restore.specs.Restoring.{own_of}
 use Rattle.bayou_serve.specs.Remade.{AreFromEach, IsRemade, IsRestoring, TakesAllOf, TakesEachOf}
 use Rattle.bayou_serve.specs.declared.plan.Peer.{Peer}
-use Rattle.bayou_serve.specs.declared.plan.Plan.{Plan}
-use Rattle.bayou_serve.specs.declared.remaking.Taken.{Taken}
+use Rattle.bayou_serve.specs.declared.plan.ServicePlan.{ServicePlan}
+use Rattle.bayou_serve.specs.declared.remaking.TakenWhole.{TakenWhole}
 use Rattle.bayou_server.specs.Laws.TakesAll.{all_taken}
 use Rattle.bayou_server.specs.Server.{Core, ServerState}
 use Rattle.bayou_server.specs.TakesAll.{TakesAll, TakesAt, TakesEach, TakingEnds}
@@ -144,11 +144,11 @@ map_push f [] x = refl
 map_push f (y ∷ xs) x = ap (λ l. f y ∷ l) (map_push f xs x)
 
 -- all that one peer more has was taken
-pub from_more : (peers : List Peer) (at : ℕ) (d : Peer) (taken more : List Taken) (one : Taken) → AreFromEach (take at peers) taken → at < length peers → more ≡ taken ++ one ∷ []
+pub from_more : (peers : List Peer) (at : ℕ) (d : Peer) (taken more : List TakenWhole) (one : TakenWhole) → AreFromEach (take at peers) taken → at < length peers → more ≡ taken ++ one ∷ []
     → one.peer ≡ (get_or peers at d).id.index → AreFromEach (take (at + 1) peers) more
 from_more peers at d taken more one each within is same =
     let number : Peer → ℕ = λ peer. peer.id.index in
-    let whose : Taken → ℕ = λ one. one.peer in
+    let whose : TakenWhole → ℕ = λ one. one.peer in
     ap (map whose) is ∙ map_push whose taken one ∙ ap (λ l. l ++ one.peer ∷ []) each ∙ ap (λ (n : ℕ). map number (take at peers) ++ n ∷ []) same
     ∙ sym (map_push number (take at peers) (get_or peers at d)) ∙ ap (map number) (sym (take_more peers at d within))
 
@@ -157,8 +157,8 @@ length_map f [] = refl
 length_map f (x ∷ xs) = ap suc (length_map f xs)
 
 -- as many as there are peers
-pub as_many : (peers : List Peer) (taken : List Taken) → AreFromEach peers taken → length taken ≡ length peers
-as_many peers taken each = sym (length_map (λ (one : Taken). one.peer) taken) ∙ ap length each ∙ length_map (λ (peer : Peer). peer.id.index) peers
+pub as_many : (peers : List Peer) (taken : List TakenWhole) → AreFromEach peers taken → length taken ≡ length peers
+as_many peers taken each = sym (length_map (λ (one : TakenWhole). one.peer) taken) ∙ ap length each ∙ length_map (λ (peer : Peer). peer.id.index) peers
 
 -- one answer more
 pub each_more : (old mid new : Core) (answers : List (List Write)) (answer : List Write) → TakesEachOf old answers mid → TakesAllOf mid answer new → TakesEachOf old (answers ++ answer ∷ []) new
@@ -166,7 +166,7 @@ each_more old mid new [] answer same last = (new, subst (λ (c : Core). TakesAll
 each_more old mid new (one ∷ answers) answer each last = (each.0, each.1, each_more each.0 mid new answers answer each.2 last)
 
 -- what was answered, and taken, with one answer more
-pub answers_more : (old mid new : Core) (taken more : List Taken) (one : Taken) (answer : List Write) → (answers : List (List Write)) × (length answers ≡ length taken) × TakesEachOf old answers mid
+pub answers_more : (old mid new : Core) (taken more : List TakenWhole) (one : TakenWhole) (answer : List Write) → (answers : List (List Write)) × (length answers ≡ length taken) × TakesEachOf old answers mid
     → more ≡ taken ++ one ∷ [] → TakesAllOf mid answer new → (answers : List (List Write)) × (length answers ≡ length more) × TakesEachOf old answers new
 answers_more old mid new taken more one answer (answers, number, each) is last =
     (answers ++ answer ∷ [], omega (arith, number, ap length is, length-append taken (one ∷ []), length-append answers (answer ∷ [])), each_more old mid new answers answer each last)
@@ -222,7 +222,7 @@ took_each old new (answer ∷ answers) (mid, first, rest) =
     }
 
 -- a server that was made again, and took what each of its peers answered
-pub is_restoring : (plan : Plan) (writes : List Write) (made core : Core) (answers : List (List Write)) (own_number : ℕ) → IsRemade plan writes made → TakesEachOf made answers core
+pub is_restoring : (plan : ServicePlan) (writes : List Write) (made core : Core) (answers : List (List Write)) (own_number : ℕ) → IsRemade plan writes made → TakesEachOf made answers core
     → length answers ≡ length plan.peers.items → own_number ≡ slice_index (count_of core.held) plan.id.index → IsRestoring plan writes own_number
 is_restoring plan writes made core answers own_number remade each number counts =
     let took = took_each made core answers each in
@@ -246,7 +246,7 @@ is_restoring plan writes made core answers own_number remade each number counts 
     }
 
 -- the same, by how many were taken from
-pub restoring_of : (plan : Plan) (writes : List Write) (made core : Core) (peers : List Peer) (taken : List Taken) (own_number : ℕ) → IsRemade plan writes made
+pub restoring_of : (plan : ServicePlan) (writes : List Write) (made core : Core) (peers : List Peer) (taken : List TakenWhole) (own_number : ℕ) → IsRemade plan writes made
     → (answers : List (List Write)) × (length answers ≡ length taken) × TakesEachOf made answers core → AreFromEach peers taken → peers ≡ plan.peers.items
     → own_number ≡ slice_index (count_of core.held) plan.id.index → IsRestoring plan writes own_number
 restoring_of plan writes made core peers taken own_number remade (answers, number, each) from is counts =

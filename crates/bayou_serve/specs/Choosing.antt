@@ -5,15 +5,15 @@ use Rattle.bayou_restore.specs.Differing.{AgreeOnAll, IsFirstDifference}
 use Rattle.bayou_serve.specs.declared.fault.ServeFault.{ServeFault}
 use Rattle.bayou_serve.specs.declared.fault.ServeFault.TheVariants.{NotRestored}
 use Rattle.bayou_serve.specs.declared.fault.Unrestored.TheVariants as why
-use Rattle.bayou_serve.specs.declared.restoring.Answer.{Answer}
+use Rattle.bayou_serve.specs.declared.restoring.PeerAnswer.{PeerAnswer}
 
 -- how many Writes of this server the answer has
-abbrev pub own_in : (server : ℕ) → Answer → ℕ
+abbrev pub own_in : (server : ℕ) → PeerAnswer → ℕ
 own_in server answer = slice_index (count_of answer.gathered.writes) server
 
 -- Of two answers the one with more Writes of this server is chosen, the first where both have as many, if under each of its names that both have
 -- they have the same Write. Else both peers are named, and the first name under which they differ.
-abbrev pub ChoosesAnswer : (server : ℕ) → (best other : Answer) → Result Answer ServeFault → Type 0
+abbrev pub ChoosesAnswer : (server : ℕ) → (best other : PeerAnswer) → Result PeerAnswer ServeFault → Type 0
 ChoosesAnswer server best other (Ok chosen) =
     (chosen ≡ (if nat_lt (own_in server best) (own_in server other) then other else best)) × AgreeOnAll best.gathered.writes other.gathered.writes server
 ChoosesAnswer server best other (Err fault) =

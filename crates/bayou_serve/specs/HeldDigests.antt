@@ -4,7 +4,7 @@ use Rattle.bayou_base.specs.declared.server.ServerId.{ServerId}
 use Rattle.bayou_greeting.specs.OriginDigests.{AreDigestsOf, digest_of, short}
 use Rattle.bayou_greeting.specs.declared.origin_digests.OriginDigests.{OriginDigests}
 use Rattle.bayou_serve.specs.declared.held_digests.HeldDigests.{HeldDigests}
-use Rattle.bayou_serve.specs.declared.held_digests.Span.{Span}
+use Rattle.bayou_serve.specs.declared.held_digests.DigestSpan.{DigestSpan}
 use Rattle.bayou_wire.specs.declared.greeting.Held.{Held}
 
 -- these Writes of that origin were read, in this order
@@ -35,7 +35,7 @@ pub record TellsUpTo (writes : List (List ℕ)) (counts digests : List ℕ) : Ty
   pub stopped : IfSome (slice_get counts number) (λ count. length writes < count)
 
 -- A span is narrowed by what was sent at these counts. The first so many digests are those of these Writes; the next one, where so many Writes are held, isn't.
-pub record Narrows (writes : List (List ℕ)) (counts told : List ℕ) (span narrow : Span) : Type 0 where
+pub record Narrows (writes : List (List ℕ)) (counts told : List ℕ) (span narrow : DigestSpan) : Type 0 where
   pub same : ℕ
   pub within : same ≤ length counts
   pub held : All (λ count. count ≤ length writes) (take same counts)

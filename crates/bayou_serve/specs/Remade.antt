@@ -4,13 +4,13 @@ use Rattle.bayou_lang.specs.declared.write.Write.{Write}
 use Rattle.bayou_lang.specs.Writes.{count_of}
 use Rattle.bayou_restore.specs.Restoring.{own_of}
 use Rattle.bayou_serve.specs.declared.plan.Peer.{Peer}
-use Rattle.bayou_serve.specs.declared.plan.Plan.{Plan}
-use Rattle.bayou_serve.specs.declared.remaking.Taken.{Taken}
+use Rattle.bayou_serve.specs.declared.plan.ServicePlan.{ServicePlan}
+use Rattle.bayou_serve.specs.declared.remaking.TakenWhole.{TakenWhole}
 use Rattle.bayou_server.specs.Server.{Core, IsUp}
 
 -- It is the server of the plan. Its own Writes are just those among the ones that a peer has, in their order, and it holds no other than a peer
 -- has.
-pub record IsRemade (plan : Plan) (writes : List Write) (core : Core) : Type 0 where
+pub record IsRemade (plan : ServicePlan) (writes : List Write) (core : Core) : Type 0 where
   pub own : own_of plan.id.index core.held ≡ own_of plan.id.index writes
   pub others : All (λ write. Contains writes write) core.held
   pub up : IsUp core
@@ -35,12 +35,12 @@ TakesEachOf old [] new = new ≡ old
 TakesEachOf old (answer ∷ answers) new = (mid : Core) × TakesAllOf old answer mid × TakesEachOf mid answers new
 
 -- all that each of these peers has was taken, once
-abbrev pub AreFromEach : List Peer → List Taken → Type 0
-AreFromEach peers taken = map (λ (one : Taken). one.peer) taken ≡ map (λ (peer : Peer). peer.id.index) peers
+abbrev pub AreFromEach : List Peer → List TakenWhole → Type 0
+AreFromEach peers taken = map (λ (one : TakenWhole). one.peer) taken ≡ map (λ (peer : Peer). peer.id.index) peers
 
 -- The server of the plan has its own Writes just as they are among the ones that a peer has, all that each of its peers answered then, and no more; so
 -- many Writes are its own.
-pub record IsRestoring (plan : Plan) (writes : List Write) (own_number : ℕ) : Type 0 where
+pub record IsRestoring (plan : ServicePlan) (writes : List Write) (own_number : ℕ) : Type 0 where
   pub core : Core
   pub answers : List (List Write)
   pub number : length answers ≡ length plan.peers.items

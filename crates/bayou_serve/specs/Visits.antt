@@ -10,7 +10,7 @@ use Rattle.bayou_peer.specs.Pulls.{PullEnds}
 use Rattle.bayou_peer.specs.declared.fault.PullFault.{PullFault}
 use Rattle.bayou_peer.specs.declared.fault.PullFault.TheVariants.{Refused}
 use Rattle.bayou_peer.specs.declared.pulling.PullStopped.{PullStopped}
-use Rattle.bayou_serve.specs.declared.visit.Outcome.{Outcome}
+use Rattle.bayou_serve.specs.declared.visit.VisitOutcome.{VisitOutcome}
 use Rattle.bayou_serve.specs.declared.visit.Visit.{Visit}
 use Rattle.bayou_serve.specs.declared.visit.Visit.TheVariants.{Away, Pulled, Failed}
 use Rattle.bayou_server.specs.declared.fault.TakeFault.TheVariants.{Conflict, OwnLost}
@@ -41,7 +41,7 @@ VisitEnds begun read is_end (Failed fault) has_lost =
     (stopped : PullStopped) × (stopped.fault ≡ fault) × (stopped.before.taken ≡ 0) × PullEnds (node_ways begun) tt tt read is_end (Err stopped) × (has_lost ≡ tells_loss begun.server stopped)
 
 -- The node's counts were offered, or a front of that was written; and of the answer a front was read, which the visit came to.
-abbrev pub Visited : Begun → (input written : Option (List ℕ)) → Outcome → Type 0
+abbrev pub Visited : Begun → (input written : Option (List ℕ)) → VisitOutcome → Type 0
 Visited begun input written outcome =
     (counts : List ℕ) × InSome begun (λ core. counts ≡ count_of core.held)
     × ((after : Option (List ℕ)) × AppendsFront written after (spelling (Offer counts)))

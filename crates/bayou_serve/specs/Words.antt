@@ -7,11 +7,11 @@ use Rattle.std.specs.Net.Socket.{socket_ip}
 use Rattle.std.specs.declared.net.socket_addr.SocketAddr.{SocketAddr}
 use Rattle.std.specs.Str.Parse.{IsNumeral, digits_value, without_leading_plus}
 use Rattle.bayou_serve.specs.declared.plan.Peer.{Peer}
-use Rattle.bayou_serve.specs.declared.plan.PlanFault.{PlanFault}
+use Rattle.bayou_serve.specs.declared.plan.ServicePlanFault.{ServicePlanFault}
 use Rattle.bayou_base.specs.declared.server.ServerId.{ServerId}
 use Rattle.bayou_serve.specs.declared.plan.Beginning.{Beginning}
 use Rattle.bayou_serve.specs.declared.plan.Beginning.TheVariants.{Restore}
-use Rattle.bayou_serve.specs.declared.plan.PlanFault.TheVariants.{NoServer, NoAddress, OpenToAnyone, NoPeer, SamePeer, TwoBeginnings, NoOther, NothingRestored, Unnamed, OutOfMemory}
+use Rattle.bayou_serve.specs.declared.plan.ServicePlanFault.TheVariants.{NoServer, NoAddress, OpenToAnyone, NoPeer, SamePeer, TwoBeginnings, NoOther, NothingRestored, Unnamed, OutOfMemory}
 
 -- the sign between a server's number and its address
 abbrev pub is_equals_sign : ℕ → Bool
@@ -54,13 +54,13 @@ pub record SayOneTwice (words : List (List ℕ)) : Type 0 where
   pub same : one.id.index ≡ other.id.index
 
 -- why a word doesn't say where a server is to listen: it is no address; or strangers reach it, and the server isn't to serve anyone
-abbrev pub RefusesListen : (word : List ℕ) → (serves_anyone : Bool) → PlanFault → Type 0
+abbrev pub RefusesListen : (word : List ℕ) → (serves_anyone : Bool) → ServicePlanFault → Type 0
 RefusesListen word serves_anyone NoAddress = (address : SocketAddr) → ¬ (IsSocketText word address)
 RefusesListen word serves_anyone OpenToAnyone = (serves_anyone ≡ false) × ((address : SocketAddr) × IsSocketText word address × ¬ (IsLoopback address))
 RefusesListen word serves_anyone _ = ⊥
 
 -- why words don't say its peers: one of them says no other server, or two say one; or memory is wanting
-abbrev pub RefusesPeers : (server servers : ℕ) → (words : List (List ℕ)) → PlanFault → Type 0
+abbrev pub RefusesPeers : (server servers : ℕ) → (words : List (List ℕ)) → ServicePlanFault → Type 0
 RefusesPeers server servers words NoPeer = (word : List ℕ) × Contains words word × SaysNoOther server servers word
 RefusesPeers server servers words SamePeer = SayOneTwice words
 RefusesPeers server servers words OutOfMemory = Unit {0}
@@ -97,13 +97,13 @@ pub record IsUnnamed (server servers : ℕ) (peers : List Peer) (left_out : List
   pub apart : IsApart peers left_out number
 
 -- why words don't say servers that are left out: one of them says none that may be; or memory is wanting
-abbrev pub RefusesLeftOut : (server servers : ℕ) → (peers : List Peer) → (words : List (List ℕ)) → PlanFault → Type 0
+abbrev pub RefusesLeftOut : (server servers : ℕ) → (peers : List Peer) → (words : List (List ℕ)) → ServicePlanFault → Type 0
 RefusesLeftOut server servers peers words NoOther = (word : List ℕ) × Contains words word × SaysNoneLeftOut server servers peers word
 RefusesLeftOut server servers peers words OutOfMemory = Unit {0}
 RefusesLeftOut server servers peers words _ = ⊥
 
 -- why a server doesn't begin so: it isn't restored, and one is left out; or it is, and one of so many is no peer, and not left out
-abbrev pub RefusesBeginning : (server servers : ℕ) → (peers : List Peer) → (left_out : List ServerId) → Beginning → PlanFault → Type 0
+abbrev pub RefusesBeginning : (server servers : ℕ) → (peers : List Peer) → (left_out : List ServerId) → Beginning → ServicePlanFault → Type 0
 RefusesBeginning server servers peers left_out beginning NothingRestored = (beginning ≢ Restore) × (left_out ≢ [])
 RefusesBeginning server servers peers left_out beginning (Unnamed number) = (beginning ≡ Restore) × IsUnnamed server servers peers left_out number
 RefusesBeginning server servers peers left_out beginning _ = ⊥
@@ -114,7 +114,7 @@ pub record SayOthers (peer_words left_words : List (List ℕ)) (peers : List Pee
   pub left_said : AllZip SaysServer left_words left_out
 
 -- Why words make no plan: the server is none of so many, or one of these.
-abbrev pub Refuses : (server servers : ℕ) → (listen : List ℕ) → (serves_anyone : Bool) → (peer_words left_words : List (List ℕ)) → Beginning → PlanFault → Type 0
+abbrev pub Refuses : (server servers : ℕ) → (listen : List ℕ) → (serves_anyone : Bool) → (peer_words left_words : List (List ℕ)) → Beginning → ServicePlanFault → Type 0
 Refuses server servers listen serves_anyone peer_words left_words beginning NoServer = servers ≤ server
 Refuses server servers listen serves_anyone peer_words left_words beginning NoAddress = RefusesListen listen serves_anyone NoAddress
 Refuses server servers listen serves_anyone peer_words left_words beginning OpenToAnyone = RefusesListen listen serves_anyone OpenToAnyone

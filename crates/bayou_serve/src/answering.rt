@@ -4,10 +4,10 @@ ghost use Rattle.std.specs.Io.KnownBytes.{Consumes};
 ghost use Rattle.bayou_wire.specs.Greetings.{SpellsGreeting};
 ghost use Rattle.bayou_wire.specs.declared.layout.TheConstants.{KIND_DIFFERS, KIND_DIGESTS};
 
-use crate::hall::Hall;
-use crate::reception::{Front, Reception, front_in_time};
+use crate::hall::ServiceHall;
+use crate::reception::{FrameFront, Reception, front_in_time};
 use crate::searching::{MAX_INQUIRIES, say};
-use crate::waiting::{Most, Since, Waiting};
+use crate::waiting::{Most, PatientWait, Since};
 use bayou_base::ServerId;
 use bayou_base::limits::GREETING_MILLISECONDS;
 use bayou_device::Device;
@@ -59,7 +59,7 @@ fn tell_known<D: Device, L: Desks, C: Clock, E, T: Wait>(
 // one anybody may say so, and the server's own visits decide.
 fn heed_difference<'a, T: Wait>(
     rt: &T,
-    hall: &'a Hall,
+    hall: &'a ServiceHall,
     own: &StoreServer,
     origin: ServerId,
 ) -> Option<OnceToken<'a, ()>>
@@ -94,14 +94,14 @@ fn meet_difference<'a, D: Device, L: Desks, C: Clock, E: Write, T: Wait>(
 // What comes next of greetings over this reader, whose waits end by `WouldBlock`.
 fn next_over<'x, C: Clock, R: Read + Drop>(
     clock: &'x C,
-    hall: &'x Hall,
+    hall: &'x ServiceHall,
     since: &'x Since,
     reader: R,
 ) -> Option<Greeting>
     ensures { IfSome result (λ greeting. (rest : Option (List ℕ)) × (read : List ℕ) × Consumes (R.remaining reader) rest read × SpellsGreeting read greeting) }
 {
     let most = Most::Milliseconds(GREETING_MILLISECONDS);
-    let patience = Waiting::new(clock, hall, since, most);
+    let patience = PatientWait::new(clock, hall, since, most);
     read_greeting(&mut CountedChannel::new(Patient::new(reader, patience), ())).ok()?
 }
 
@@ -140,7 +140,7 @@ fn answer_inquiries<D: Device, L: Desks, C: Clock, E: Write, T: Wait>(
     let most = Most::Milliseconds(GREETING_MILLISECONDS);
     for _ in 0..=MAX_INQUIRIES {
         match front_in_time(reception.clock, reception.hall, &since, most, stream) {
-            Some(Front::Kind(kind)) if is_of_digests(kind) => {
+            Some(FrameFront::Kind(kind)) if is_of_digests(kind) => {
                 if !hear(rt, alloc, reception, peer, &since, stream) {
                     return false;
                 }

@@ -4,12 +4,12 @@ ghost use Rattle.bayou_serve.specs.Ways.{IsWay};
 
 use crate::comparing::Comparison;
 use crate::greeting::{Way, way_to};
-use crate::hall::Hall;
+use crate::hall::ServiceHall;
 use crate::marking::lose;
 use crate::peers::Visiting;
 use crate::plan::Peer;
 use crate::searching::{say, search};
-use crate::waiting::{Most, Since, Waiting};
+use crate::waiting::{Most, PatientWait, Since};
 use bayou_base::ServerId;
 use bayou_base::limits::GREETING_MILLISECONDS;
 use bayou_device::Device;
@@ -57,7 +57,7 @@ fn search_over<'x, R: Read + Drop, W: Write + Drop, T: Wait + Clock>(
     rt: &'x T,
     alloc: Global,
     comparison: &Comparison,
-    hall: &'x Hall,
+    hall: &'x ServiceHall,
     since: &'x Since,
     apart: Apart,
     reader: R,
@@ -65,7 +65,7 @@ fn search_over<'x, R: Read + Drop, W: Write + Drop, T: Wait + Clock>(
 ) -> Option<u32>
     ensures { IfSome result (λ first. first ≤ apart.count) }
 {
-    let patience = Waiting::new(rt, hall, since, Most::Milliseconds(GREETING_MILLISECONDS));
+    let patience = PatientWait::new(rt, hall, since, Most::Milliseconds(GREETING_MILLISECONDS));
     let mut channel = CountedChannel::new(Patient::new(reader, patience), writer);
     let first = search(
         rt,

@@ -3,8 +3,8 @@ ghost use Rattle.std.specs.Prelude.{◌≡◌, ◌≢◌, ◌+◌, ◌≤◌, �
 ghost use Rattle.bayou_base.specs.declared.limits.TheConstants.{SERVERS};
 ghost use Rattle.bayou_serve.specs.Told.{difference_text, own_difference_text};
 
-use crate::held_digests::{HeldDigests, Span};
-use crate::notice::Notice;
+use crate::held_digests::{DigestSpan, HeldDigests};
+use crate::notice::NoticeTime;
 use crate::teller::Teller;
 use arrayvec::ArrayVec;
 use bayou_base::limits::DUMPED_AT_ONCE;
@@ -23,7 +23,7 @@ use std::time::Clock;
 /// What was reported of a peer's other Writes of one origin: when, and from which Write on, 0 where that isn't known.
 #[derive(Drop)]
 struct Difference {
-    told: Notice,
+    told: NoticeTime,
     first: AtomicU64,
 }
 
@@ -111,7 +111,7 @@ fn no_differences(alloc: Global) -> Result<Vec<Difference>, AllocError>
     let mut differences = Vec::with_capacity(alloc, SERVERS * SERVERS)?;
     while differences.len() < SERVERS * SERVERS {
         differences.push(Difference {
-            told: Notice::new(),
+            told: NoticeTime::new(),
             first: AtomicU64::new(0),
         })?;
     }
@@ -193,10 +193,10 @@ impl Comparison {
         &self,
         rt: &T,
         origin: ServerId,
-        span: Span,
+        span: DigestSpan,
         counts: &[u32],
         told: &[u64],
-    ) -> Option<Span>
+    ) -> Option<DigestSpan>
         ensures told { IsSome result ↔ (length told.now ≡ length counts.now) }
         ensures within { All (λ count. (span.low < count) × (count < span.high)) counts.now → IfSome result (λ narrow. (span.low ≤ narrow.low) × (narrow.high ≤ span.high)) }
     {

@@ -5,10 +5,10 @@ ghost use Rattle.bayou_handshake.specs.Ends.{IsKnownServer, IsLetIn};
 ghost use Rattle.bayou_serve.specs.Greeting.{MayAsk, hello_to};
 ghost use Rattle.bayou_serve.specs.Ways.{IsGreetedWay, IsWay};
 
-use crate::hall::Hall;
+use crate::hall::ServiceHall;
 use crate::peers::reach;
-use crate::plan::{Peer, Plan};
-use crate::waiting::{Most, Since, Waiting};
+use crate::plan::{Peer, ServicePlan};
+use crate::waiting::{Most, PatientWait, Since};
 use bayou_base::ServerId;
 use bayou_base::limits::GREETING_MILLISECONDS;
 use bayou_greeting::{StoreKey, Stranger};
@@ -33,7 +33,7 @@ fn drawn<T: RandomSource>(rt: &T) -> Option<Nonce> {
 }
 
 /// What the server of this plan goes by in greetings, where its store has this key.
-pub(crate) fn store_server(plan: &Plan, key: Option<StoreKey>) -> StoreServer
+pub(crate) fn store_server(plan: &ServicePlan, key: Option<StoreKey>) -> StoreServer
     ensures id { result.id ≡ plan.now.id }
     ensures servers { result.servers.count ≡ plan.now.servers }
     ensures key { result.key ≡ key }
@@ -60,7 +60,7 @@ fn receive_over<'x, R: Read + Drop, W: Write + Drop, C: Clock>(
     alloc: Global,
     own: &StoreServer,
     nonce: Nonce,
-    hall: &'x Hall,
+    hall: &'x ServiceHall,
     clock: &'x C,
     since: &'x Since,
     reader: R,
@@ -70,7 +70,7 @@ fn receive_over<'x, R: Read + Drop, W: Write + Drop, C: Clock>(
         × IsLetIn own.now nonce read written guest) }
 {
     let most = Most::Milliseconds(GREETING_MILLISECONDS);
-    let reader = Patient::new(reader, Waiting::new(clock, hall, since, most));
+    let reader = Patient::new(reader, PatientWait::new(clock, hall, since, most));
     let mut channel = CountedChannel::new(reader, writer);
     receive(alloc, own, nonce, &mut channel).ok()
 }
@@ -79,7 +79,7 @@ fn receive_over<'x, R: Read + Drop, W: Write + Drop, C: Clock>(
 pub(crate) fn receive_guest<C: Clock + RandomSource>(
     alloc: Global,
     own: &StoreServer,
-    hall: &Hall,
+    hall: &ServiceHall,
     clock: &C,
     stream: &TcpStream,
 ) -> Option<LetIn>
@@ -110,7 +110,7 @@ fn greet_over<'x, R: Read + Drop, W: Write + Drop, C: Clock>(
     own: &StoreServer,
     hello: &Hello,
     held: Option<Held>,
-    hall: &'x Hall,
+    hall: &'x ServiceHall,
     clock: &'x C,
     since: &'x Since,
     reader: R,
@@ -120,7 +120,7 @@ fn greet_over<'x, R: Read + Drop, W: Write + Drop, C: Clock>(
         × IsKnownServer hello.now own.now.key held read written known) }
 {
     let most = Most::Milliseconds(GREETING_MILLISECONDS);
-    let reader = Patient::new(reader, Waiting::new(clock, hall, since, most));
+    let reader = Patient::new(reader, PatientWait::new(clock, hall, since, most));
     let mut channel = CountedChannel::new(reader, writer);
     greet_server(alloc, hello, &own.key, held, &mut channel)
 }
@@ -153,7 +153,7 @@ fn greet_at<T: Clock + RandomSource>(
     alloc: Global,
     own: &StoreServer,
     peer: Peer,
-    hall: &Hall,
+    hall: &ServiceHall,
     held: Option<Held>,
     stream: &TcpStream,
 ) -> Result<Known, GreetingFault> {
@@ -171,7 +171,7 @@ fn greeted_way_to<T: Clock + RandomSource + Sockets>(
     alloc: Global,
     own: &StoreServer,
     peer: Peer,
-    hall: &Hall,
+    hall: &ServiceHall,
     held: &Option<Held>,
 ) -> Option<Way>
     ensures { IfSome result IsGreetedWay }
@@ -199,7 +199,7 @@ pub(crate) fn way_to<T: Clock + RandomSource + Sockets>(
     alloc: Global,
     own: &StoreServer,
     peer: Peer,
-    hall: &Hall,
+    hall: &ServiceHall,
     held: Option<Held>,
 ) -> Way
     ensures { IsWay own.now.key result }

@@ -2,7 +2,7 @@
 ghost use Rattle.std.specs.Prelude.{◌≡◌, ◌*◌, ℕ, min, nat_le, if◌then◌else◌};
 ghost use Rattle.bayou_base.specs.declared.limits.TheConstants.{CROWDED_MILLISECONDS};
 
-use crate::notice::Notice;
+use crate::notice::NoticeTime;
 use bayou_base::limits::CROWDED_MILLISECONDS;
 use bayou_net::Leave;
 use std::sync::atomic::{AtomicBool, AtomicU64, Ordering};
@@ -12,7 +12,7 @@ const MILLISECONDS: u64 = 1_000;
 
 /// Whether the server ends, whether it may take Writes, and how many of its desks are taken.
 #[derive(Drop)]
-pub struct Hall {
+pub struct ServiceHall {
     pub stop: AtomicBool,
     /// Whether a thread didn't start.
     pub is_short: AtomicBool,
@@ -23,9 +23,9 @@ pub struct Hall {
     /// Set once its journal's file is known to be no more what it wrote.
     pub strayed: OnceLock<()>,
     /// When a line last said that a connection can't be taken.
-    pub untaken: Notice,
+    pub untaken: NoticeTime,
     /// When a line last said that connections wait.
-    pub full: Notice,
+    pub full: NoticeTime,
     busy: AtomicU64,
     desks: u64,
     idle_milliseconds: u64,
@@ -41,19 +41,19 @@ pub fn patience_for(busy: u64, desks: u64, idle_milliseconds: u64) -> u64
     idle_milliseconds
 }
 
-impl Hall {
+impl ServiceHall {
     /// A hall with so many desks, none of them taken, where a connection may say nothing so long.
     pub fn new(desks: u32, idle_seconds: u32) -> Self
         ensures { (result.desks ≡ desks) × (result.idle_milliseconds ≡ idle_seconds * MILLISECONDS) }
     {
-        Hall {
+        ServiceHall {
             stop: AtomicBool::new(false),
             is_short: AtomicBool::new(false),
             opened: OnceLock::new(),
             lost: OnceLock::new(),
             strayed: OnceLock::new(),
-            untaken: Notice::new(),
-            full: Notice::new(),
+            untaken: NoticeTime::new(),
+            full: NoticeTime::new(),
             busy: AtomicU64::new(0),
             desks: u64::from(desks),
             idle_milliseconds: u64::from(idle_seconds) * MILLISECONDS,
@@ -135,7 +135,7 @@ impl Hall {
     }
 }
 
-impl Leave for Hall {
+impl Leave for ServiceHall {
     fn is_open(&self) -> bool {
         self.is_opened() && self.may_reopen()
     }

@@ -20,12 +20,12 @@ use std::array;
 
 /// Between which two counts of an origin's Writes the first one that differs is: the first `low` are the same, and of the first `high` one is another.
 #[derive(Clone, Copy, Debug, PartialEq, Eq)]
-pub struct Span {
+pub struct DigestSpan {
     pub low: u32,
     pub high: u32,
 }
 
-impl Span {
+impl DigestSpan {
     /// Of which counts the digests are asked next: as many as are asked at once, at equal distances.
     pub fn counts(self) -> ArrayVec<u32, DIGESTS_AT_ONCE>
         ensures within { All (λ count. (self.low < count) × (count < self.high)) result.items }
@@ -191,10 +191,10 @@ impl HeldDigests {
     pub fn narrowed(
         &self,
         origin: ServerId,
-        span: Span,
+        span: DigestSpan,
         counts: &[u32],
         told: &[u64],
-    ) -> Option<Span>
+    ) -> Option<DigestSpan>
         ensures told { IsSome result ↔ (length told.now ≡ length counts.now) }
         ensures within { All (λ count. (span.low < count) × (count < span.high)) counts.now → IfSome result (λ narrow. (span.low ≤ narrow.low) × (narrow.high ≤ span.high)) }
         ensures narrows { (writes : List (List ℕ)) → HasRead self.now origin writes → IfSome result (λ narrow. Narrows writes counts.now told.now span narrow) }

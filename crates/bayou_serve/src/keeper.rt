@@ -7,9 +7,9 @@ ghost use Rattle.bayou_node.specs.Answers.{InSome};
 ghost use Rattle.bayou_serve.specs.Fullness.{IsFullness};
 
 use crate::filling::Filling;
-use crate::hall::Hall;
+use crate::hall::ServiceHall;
 use crate::lines::{holds_line, reopened_line};
-use crate::marking::{Mark, UNMARKED};
+use crate::marking::{ServerMark, UNMARKED};
 use crate::peers::{TICKS_PER_SECOND, rest_until_open, tick};
 use crate::reminding::Reminder;
 use crate::teller::Teller;
@@ -53,7 +53,7 @@ fn tell_fullness<D: Device, L: Desks, E: Write, T: Wait>(
 // Marks that the server lost Writes of its own, and tells it, where that is due.
 fn tell_loss<M: Device, E: Write, T: Wait>(
     rt: &T,
-    mark: &Mark<M>,
+    mark: &ServerMark<M>,
     reminder: &mut Reminder,
     teller: &Teller<E>,
 )
@@ -73,7 +73,7 @@ fn tell_loss<M: Device, E: Write, T: Wait>(
 }
 
 // Rests until the next look, or until the server ends, or it is known that it lost Writes of its own, where it wasn't before.
-fn rest_until_look<T: Clock>(rt: &T, hall: &Hall, has_lost: bool) {
+fn rest_until_look<T: Clock>(rt: &T, hall: &ServiceHall, has_lost: bool) {
     for _ in 0..u64::from(LOOK_SECONDS) * TICKS_PER_SECOND {
         if hall.is_over() || (hall.has_lost() && !has_lost) {
             return;
@@ -90,8 +90,8 @@ pub(crate) fn keep_up<D: Device, L: Desks, M: Device, E: Write, T: Wait + Clock>
     alloc: Global,
     node: &Node<D, L>,
     limit: u32,
-    hall: &Hall,
-    mark: &Mark<M>,
+    hall: &ServiceHall,
+    mark: &ServerMark<M>,
     teller: &Teller<E>,
 ) {
     rest_until_open(rt, hall);

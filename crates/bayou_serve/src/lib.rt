@@ -1,6 +1,6 @@
 //! A server that lives: one server of a store at a socket, with its journal in a file, which pulls from its peers by itself.
 //!
-//! Callers see [`serve_plan`], which serves what a [`Plan`] says until it is asked to end, or for ever. Each connection is served at a desk
+//! Callers see [`serve_plan`], which serves what a [`ServicePlan`] says until it is asked to end, or for ever. Each connection is served at a desk
 //! of its own (`bayou_net`), as long as there is patience with it: a client that says nothing holds nobody up. One thread a peer pulls every
 //! so often; one more opens the journal again where a fault of the device took the server down, and tells when the server fills up. A journal that is
 //! lost is made again of what the peers have (`bayou_restore`), where the plan asks for that. A server that finds that it lost Writes of its own,
@@ -46,6 +46,6 @@ pub mod waiting;
 pub mod watched;
 
 pub use fault::{ServeFault, Unrestored};
-pub use plan::{Beginning, Habits, Peer, Plan, PlanFault};
-pub use serving::{Paths, serve_plan};
+pub use plan::{Beginning, Peer, ServiceHabits, ServicePlan, ServicePlanFault};
+pub use serving::{ServicePaths, serve_plan};
 pub use teller::Teller;

@@ -3,9 +3,9 @@ ghost use Rattle.std.specs.Prelude.{◌≡◌, true};
 ghost use Rattle.bayou_serve.specs.Greeting.{MayAsk};
 ghost use Rattle.bayou_serve.specs.Lookups.{AnsweredOver};
 
-use crate::hall::Hall;
-use crate::reception::{Admission, Front, channel_over, front_in_time};
-use crate::rooms::Place;
+use crate::hall::ServiceHall;
+use crate::reception::{Admission, FrameFront, channel_over, front_in_time};
+use crate::rooms::RoomPlace;
 use crate::waiting::Most;
 use bayou_device::Device;
 use bayou_frames::send;
@@ -20,7 +20,7 @@ use std::time::Clock;
 
 /// What comes once nothing is asked any more beside one key.
 #[derive(Clone, Copy, Debug, PartialEq, Eq)]
-pub(crate) enum Next {
+pub(crate) enum NextLookup {
     /// Another request.
     Request,
     /// Nothing: the other end went away, or was waited for in vain.
@@ -35,9 +35,9 @@ fn answer_over<D: Device, L: Desks, C: Clock, R: Read + Drop, W: Write + Drop, T
     alloc: Global,
     node: &Node<D, L>,
     admission: &Admission<'_>,
-    hall: &Hall,
+    hall: &ServiceHall,
     clock: &C,
-    place: &Place,
+    place: &RoomPlace,
     reader: R,
     writer: W,
 ) -> bool
@@ -62,24 +62,24 @@ pub(crate) fn answer_lookups<D: Device, L: Desks, C: Clock, T: Wait>(
     alloc: Global,
     node: &Node<D, L>,
     admission: &Admission<'_>,
-    hall: &Hall,
+    hall: &ServiceHall,
     clock: &C,
-    place: &Place,
+    place: &RoomPlace,
     stream: &TcpStream,
-) -> Next {
+) -> NextLookup {
     for _ in rt.forever() {
         let most = Most::Placed(hall.idle_milliseconds(), place);
         match front_in_time(clock, hall, &place.since, most, stream) {
-            Some(Front::Kind(kind)) if is_lookup(kind) => {
+            Some(FrameFront::Kind(kind)) if is_lookup(kind) => {
                 if !answer_over(
                     rt, alloc, node, admission, hall, clock, place, stream, stream,
                 ) {
-                    return Next::Unanswered;
+                    return NextLookup::Unanswered;
                 }
             }
-            Some(_) => return Next::Request,
-            None => return Next::Nothing,
+            Some(_) => return NextLookup::Request,
+            None => return NextLookup::Nothing,
         }
     }
-    Next::Nothing
+    NextLookup::Nothing
 }

@@ -5,7 +5,7 @@ ghost use Rattle.bayou_serve.specs.declared.fault.ServeFault.TheVariants.{Lost, 
 ghost use Rattle.bayou_serve.specs.declared.plan.Beginning.TheVariants.{Restore};
 
 use crate::fault::ServeFault;
-use crate::hall::Hall;
+use crate::hall::ServiceHall;
 use crate::plan::Beginning;
 use bayou_device::{Device, FileDevice, ReadFault};
 use std::alloc::Global;
@@ -94,9 +94,9 @@ fn unmarked<M: Device>(
 
 /// The mark of a server, which its threads share.
 #[derive(Drop)]
-pub(crate) struct Mark<M: Device>(Mutex<Marking<M>>);
+pub(crate) struct ServerMark<M: Device>(Mutex<Marking<M>>);
 
-impl<M: Device> Mark<M> {
+impl<M: Device> ServerMark<M> {
     /// Makes the mark, where it isn't made; whether it is made.
     pub(crate) fn make<T: Wait>(&self, rt: &T) -> bool {
         self.0.lock(rt).make()
@@ -112,7 +112,11 @@ pub(crate) struct Loss<'a> {
 }
 
 /// The server lost Writes of its own: it takes no more from now on, and that is marked, where it isn't yet. What can't be marked may be tried again.
-pub(crate) fn lose<'a, M: Device, T: Wait>(rt: &T, hall: &'a Hall, mark: &Mark<M>) -> Loss<'a>
+pub(crate) fn lose<'a, M: Device, T: Wait>(
+    rt: &T,
+    hall: &'a ServiceHall,
+    mark: &ServerMark<M>,
+) -> Loss<'a>
     ensures { result.known.of ≡ hall.entry.now.lost.id }
 {
     let known = hall.lose(rt);
@@ -152,14 +156,14 @@ pub(crate) fn open_mark<T: Files<File = File>>(
     alloc: Global,
     path: &str,
     beginning: Beginning,
-) -> Result<Mark<FileDevice<File>>, ServeFault>
+) -> Result<ServerMark<FileDevice<File>>, ServeFault>
     ensures { IfErr result (λ fault. (fault ≡ Lost) ⊎ (fault ≡ MarkFailed) ⊎ (fault ≡ Memory)) }
 {
     let Ok(device) = FileDevice::open(rt, path) else {
         return Err(ServeFault::MarkFailed);
     };
     let marking = unmarked(alloc, device, beginning)?;
-    Ok(Mark(Mutex::new(marking)))
+    Ok(ServerMark(Mutex::new(marking)))
 }
 
 /// Removes the file of this name where it is empty: a server that lost nothing leaves nothing but its journal.

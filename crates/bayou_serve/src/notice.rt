@@ -20,12 +20,12 @@ fn due_behind(now: u64, due: u64) -> Option<u64>
 
 /// From which moment on a line about what lasts may be reported, in milliseconds of a clock. Threads share it: one of them tells the line.
 #[derive(Drop)]
-pub struct Notice(AtomicU64);
+pub struct NoticeTime(AtomicU64);
 
-impl Notice {
+impl NoticeTime {
     /// It wasn't reported yet.
     pub fn new() -> Self {
-        Notice(AtomicU64::new(0))
+        NoticeTime(AtomicU64::new(0))
     }
 
     /// Whether the caller is to tell it now: then nobody is for [`NOTICE_SECONDS`].

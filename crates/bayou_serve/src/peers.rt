@@ -6,15 +6,15 @@ ghost use Rattle.bayou_serve.specs.Visits.{Visited};
 use crate::compared_way::compared_way_to;
 use crate::comparing::Comparison;
 use crate::greeting::{Strangers, Way, stranger_line};
-use crate::hall::Hall;
+use crate::hall::ServiceHall;
 use crate::lines::news_line;
-use crate::marking::{Loss, Mark, lose};
+use crate::marking::{Loss, ServerMark, lose};
 use crate::pace::Pace;
 use crate::plan::Peer;
 use crate::rollcall::{FirstAnswer, Rollcall, has_own_beyond, rest_while_starting};
 use crate::teller::Teller;
-use crate::visit::{Acquaintance, Outcome, Visit, outcome_of};
-use crate::waiting::{Most, Renewing, Since, Waiting};
+use crate::visit::{Acquaintance, Visit, VisitOutcome, outcome_of};
+use crate::waiting::{Most, PatientStream, PatientWait, Since};
 use bayou_base::limits::{PEER_ANSWER_MILLISECONDS, PEER_REACH_SECONDS, TICK_MILLISECONDS};
 use bayou_device::Device;
 use bayou_greeting::Stranger;
@@ -39,7 +39,7 @@ pub(crate) fn tick<T: Clock>(rt: &T) {
 }
 
 /// Rests so long, or until the server ends.
-pub(crate) fn rest<T: Clock>(rt: &T, hall: &Hall, seconds: u32) {
+pub(crate) fn rest<T: Clock>(rt: &T, hall: &ServiceHall, seconds: u32) {
     for _ in 0..u64::from(seconds) * TICKS_PER_SECOND {
         if hall.is_over() {
             return;
@@ -76,19 +76,19 @@ fn visit_over<'x, D: Device, L: Desks, R: Read + Drop, W: Write + Drop, T: Wait 
     rt: &'x T,
     alloc: Global,
     node: &Node<D, L>,
-    hall: &'x Hall,
+    hall: &'x ServiceHall,
     since: &'x Since,
     pace: &'x Pace,
     reader: R,
     writer: W,
-) -> Outcome
+) -> VisitOutcome
     ensures { Visited L.begun (R.remaining reader) (W.contents writer) result }
 {
     let most = Most::Paced(PEER_ANSWER_MILLISECONDS, pace);
-    let patience = Waiting::new(rt, hall, since, most);
+    let patience = PatientWait::new(rt, hall, since, most);
     let patient = Patient::new(reader, patience);
-    let reader = Renewing::paced(patient, rt, since, pace);
-    let writer = Renewing::new(writer, rt, since);
+    let reader = PatientStream::paced(patient, rt, since, pace);
+    let writer = PatientStream::new(writer, rt, since);
     let mut channel = CountedChannel::new(reader, writer);
     let counts = node.offer(rt);
     outcome_of(node.id(), pull_from(rt, alloc, node, &counts, &mut channel))
@@ -98,8 +98,8 @@ fn visit_over<'x, D: Device, L: Desks, R: Read + Drop, W: Write + Drop, T: Wait 
 #[derive(Drop)]
 pub(crate) struct Visiting<'a, M: Device, E> {
     pub(crate) own: &'a StoreServer,
-    pub(crate) hall: &'a Hall,
-    pub(crate) mark: &'a Mark<M>,
+    pub(crate) hall: &'a ServiceHall,
+    pub(crate) mark: &'a ServerMark<M>,
     pub(crate) teller: &'a Teller<E>,
     pub(crate) rollcall: &'a Rollcall,
     pub(crate) comparison: &'a Comparison,
@@ -120,14 +120,14 @@ fn visit<D: Device, L: Desks, M: Device, E: Write, T: Wait + Clock + RandomSourc
     peer: Peer,
     visiting: &Visiting<'_, M, E>,
     known: &mut Known,
-) -> Option<Outcome>
+) -> Option<VisitOutcome>
     ensures away { IfSome result (λ outcome. outcome.visit ≡ Away → outcome.has_lost ≡ false) }
     ensures visited { IsSome result → known.new.visits ≡ known.old.visits }
     ensures unvisited { result ≡ None → known.new.visits.last ≡ None }
 {
     let hall = visiting.hall;
     match compared_way_to(rt, alloc, node, peer, visiting) {
-        Way::Away => Some(Outcome {
+        Way::Away => Some(VisitOutcome {
             visit: Visit::Away,
             has_lost: false,
         }),
@@ -163,8 +163,8 @@ fn visit<D: Device, L: Desks, M: Device, E: Write, T: Wait + Clock + RandomSourc
 // Has no Write taken any more where the visit told that the server lost some of its own.
 fn heed<'a, M: Device, T: Wait>(
     rt: &T,
-    hall: &'a Hall,
-    mark: &Mark<M>,
+    hall: &'a ServiceHall,
+    mark: &ServerMark<M>,
     has_lost: bool,
 ) -> Option<Loss<'a>>
     ensures heeded { has_lost ≡ true ↔ IsSome result }
@@ -225,7 +225,7 @@ where
 }
 
 /// Rests until Writes may be made, or the server ends.
-pub(crate) fn rest_until_open<T: Wait + Clock>(rt: &T, hall: &Hall) {
+pub(crate) fn rest_until_open<T: Wait + Clock>(rt: &T, hall: &ServiceHall) {
     for _ in rt.forever() {
         if hall.is_opened() || hall.is_over() {
             return;

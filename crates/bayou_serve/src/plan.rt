@@ -7,7 +7,7 @@ ghost use Rattle.bayou_base.specs.declared.server.ServerId.{ServerId as ServerNu
 ghost use Rattle.bayou_serve.specs.Words.{AreNamed, IsApart, IsLeftOut, IsLoopback, IsUnnamed, Refuses, RefusesBeginning, RefusesLeftOut, RefusesListen, RefusesPeers, SaysListen, SaysNoneLeftOut, SaysPeer, SaysServer};
 ghost use Rattle.bayou_serve.specs.declared.plan.Beginning.TheVariants.{Restore};
 ghost use Rattle.bayou_serve.specs.declared.plan.Peer.{Peer as Another};
-ghost use Rattle.bayou_serve.specs.declared.plan.PlanFault.TheVariants.{NoServer, NothingRestored, Unnamed};
+ghost use Rattle.bayou_serve.specs.declared.plan.ServicePlanFault.TheVariants.{NoServer, NothingRestored, Unnamed};
 
 use bayou_base::ServerId;
 use std::alloc::{AllocError, Global};
@@ -48,7 +48,7 @@ impl Beginning {
 
 /// How a server lives.
 #[derive(Clone, Copy, Debug, PartialEq, Eq)]
-pub struct Habits {
+pub struct ServiceHabits {
     /// How many Writes it holds at the most.
     pub limit: u32,
     /// How long it rests between two pulls from a peer.
@@ -65,14 +65,14 @@ pub struct Habits {
 
 /// A server that is to live: which one of how many, where it listens, and from whom it pulls.
 #[derive(Drop)]
-pub struct Plan {
+pub struct ServicePlan {
     pub id: ServerId,
     pub servers: u8,
     pub listen: SocketAddr,
     pub peers: Vec<Peer>,
     /// The servers that a restoring goes on without.
     pub left_out: Vec<ServerId>,
-    pub habits: Habits,
+    pub habits: ServiceHabits,
     pub ghost among: { (id.index < servers) × (servers ≤ SERVERS) },
     pub ghost others: { All (λ peer. (peer.id.index < servers) × (peer.id ≢ id)) peers.items },
     pub ghost once: { AllPairs (λ one other. one.id ≢ other.id) peers.items },
@@ -82,7 +82,7 @@ pub struct Plan {
 
 /// Why the words of a command line make no plan.
 #[derive(Clone, Copy, Debug, PartialEq, Eq, Error)]
-pub enum PlanFault {
+pub enum ServicePlanFault {
     #[error("--id is below --servers")]
     NoServer,
     #[error("--listen takes ADDRESS:PORT, with an address of numbers")]
@@ -106,14 +106,14 @@ pub enum PlanFault {
     OutOfMemory,
 }
 
-impl From<AllocError> for PlanFault {
+impl From<AllocError> for ServicePlanFault {
     ghost use Rattle.std.specs.Prelude.{◌≡◌};
-    ghost use Rattle.bayou_serve.specs.declared.plan.PlanFault.TheVariants.{OutOfMemory};
+    ghost use Rattle.bayou_serve.specs.declared.plan.ServicePlanFault.TheVariants.{OutOfMemory};
 
     ghost from_gives = { λ _ fault. fault ≡ OutOfMemory };
 
-    fn from(_error: AllocError) -> PlanFault {
-        PlanFault::OutOfMemory
+    fn from(_error: AllocError) -> ServicePlanFault {
+        ServicePlanFault::OutOfMemory
     }
 }
 
@@ -148,7 +148,7 @@ fn peers_of(
     id: ServerId,
     servers: u8,
     words: &[&str],
-) -> Result<Vec<Peer>, PlanFault>
+) -> Result<Vec<Peer>, ServicePlanFault>
     ensures others { IfOk result (λ peers. All (λ peer. (peer.id.index < servers) × (peer.id ≢ id)) peers.items) }
     ensures once { IfOk result (λ peers. AllPairs (λ one other. one.id ≢ other.id) peers.items) }
     ensures number { IfOk result (λ peers. length peers.items ≡ length words.now) }
@@ -158,16 +158,16 @@ fn peers_of(
     let mut peers: Vec<Peer> = Vec::new(alloc);
     for word in words {
         let Some(peer) = peer_of(word) else {
-            return Err(PlanFault::NoPeer);
+            return Err(ServicePlanFault::NoPeer);
         };
         if peer.id.index >= servers || peer.id == id {
-            return Err(PlanFault::NoPeer);
+            return Err(ServicePlanFault::NoPeer);
         }
         if has_peer(&peers, peer.id) {
-            return Err(PlanFault::SamePeer);
+            return Err(ServicePlanFault::SamePeer);
         }
         if peers.push(peer).is_err() {
-            return Err(PlanFault::OutOfMemory);
+            return Err(ServicePlanFault::OutOfMemory);
         }
     }
     Ok(peers)
@@ -228,7 +228,7 @@ fn left_out_of(
     servers: u8,
     peers: &[Peer],
     words: &[&str],
-) -> Result<Vec<ServerId>, PlanFault>
+) -> Result<Vec<ServerId>, ServicePlanFault>
     ensures said { IfOk result (λ left. AllZip (λ word server. SaysServer word.now server) words.now left.items) }
     ensures others { IfOk result (λ left. All (λ server. IsLeftOut id.index servers peers.now server.index) left.items) }
     ensures refused { IfErr result (RefusesLeftOut id.index servers peers.now (map (λ word. word.now) words.now)) }
@@ -236,10 +236,10 @@ fn left_out_of(
     let mut left_out: Vec<ServerId> = Vec::new(alloc);
     for word in words {
         let Some(server) = left_out_in(id, servers, peers, word) else {
-            return Err(PlanFault::NoOther);
+            return Err(ServicePlanFault::NoOther);
         };
         if left_out.push(server).is_err() {
-            return Err(PlanFault::OutOfMemory);
+            return Err(ServicePlanFault::OutOfMemory);
         }
     }
     Ok(left_out)
@@ -272,14 +272,14 @@ fn unnamed(id: ServerId, servers: u8, peers: &[Peer], left_out: &[ServerId]) -> 
 }
 
 // Whether no server is left out.
-fn none_left_out(left_out: &[ServerId]) -> Result<(), PlanFault>
+fn none_left_out(left_out: &[ServerId]) -> Result<(), ServicePlanFault>
     ensures none { OnOk result (left_out.now ≡ []) }
     ensures some { IfErr result (λ fault. (fault ≡ NothingRestored) × (left_out.now ≢ [])) }
 {
     if left_out.is_empty() {
         Ok(())
     } else {
-        Err(PlanFault::NothingRestored)
+        Err(ServicePlanFault::NothingRestored)
     }
 }
 
@@ -289,13 +289,13 @@ fn all_named(
     servers: u8,
     peers: &[Peer],
     left_out: &[ServerId],
-) -> Result<(), PlanFault>
+) -> Result<(), ServicePlanFault>
     requires { servers ≤ SERVERS }
     ensures named { OnOk result (AreNamed id.index servers peers.now left_out.now) }
     ensures unnamed { IfErr result (λ fault. (number : ℕ) × (fault ≡ Unnamed number) × IsUnnamed id.index servers peers.now left_out.now number) }
 {
     match unnamed(id, servers, peers, left_out) {
-        Some(number) => Err(PlanFault::Unnamed(number)),
+        Some(number) => Err(ServicePlanFault::Unnamed(number)),
         None => Ok(()),
     }
 }
@@ -307,7 +307,7 @@ fn fits_beginning(
     peers: &[Peer],
     left_out: &[ServerId],
     beginning: Beginning,
-) -> Result<(), PlanFault>
+) -> Result<(), ServicePlanFault>
     requires { servers ≤ SERVERS }
     ensures named { OnOk result (beginning ≡ Restore → AreNamed id.index servers peers.now left_out.now) }
     ensures alone { OnOk result (beginning ≢ Restore → left_out.now ≡ []) }
@@ -327,20 +327,20 @@ fn is_loopback(address: SocketAddr) -> bool
 }
 
 // Where the server is to listen. Only who says so listens where strangers may come.
-fn listens_at(word: &str, serves_anyone: bool) -> Result<SocketAddr, PlanFault>
+fn listens_at(word: &str, serves_anyone: bool) -> Result<SocketAddr, ServicePlanFault>
     ensures said { IfOk result (SaysListen word.now serves_anyone) }
     ensures refused { IfErr result (RefusesListen word.now serves_anyone) }
 {
     let Ok(address) = word.parse::<SocketAddr>() else {
-        return Err(PlanFault::NoAddress);
+        return Err(ServicePlanFault::NoAddress);
     };
     if serves_anyone || is_loopback(address) {
         return Ok(address);
     }
-    Err(PlanFault::OpenToAnyone)
+    Err(ServicePlanFault::OpenToAnyone)
 }
 
-impl Plan {
+impl ServicePlan {
     /// The plan of a server of this number among so many, which listens and pulls as these words say; or the first of them that can't be done.
     /// Only where it serves anyone does it listen at an address that isn't loopback.
     pub fn new(
@@ -351,8 +351,8 @@ impl Plan {
         serves_anyone: bool,
         peers: &[&str],
         left_out: &[&str],
-        habits: Habits,
-    ) -> Result<Plan, PlanFault>
+        habits: ServiceHabits,
+    ) -> Result<ServicePlan, ServicePlanFault>
         requires { servers ≤ SERVERS }
         ensures same { IfOk result (λ plan. (plan.id.index ≡ id) × (plan.servers ≡ servers) × (plan.habits ≡ habits) × (length plan.peers.items ≡ length peers.now)) }
         ensures listens { IfOk result (λ plan. SaysListen listen.now serves_anyone plan.listen) }
@@ -364,14 +364,14 @@ impl Plan {
         ensures refused { IfErr result (Refuses id servers listen.now serves_anyone (map (λ word. word.now) peers.now) (map (λ word. word.now) left_out.now) habits.beginning) }
     {
         if id >= servers {
-            return Err(PlanFault::NoServer);
+            return Err(ServicePlanFault::NoServer);
         }
         let id = ServerId { index: id };
         let listen = listens_at(listen, serves_anyone)?;
         let peers = peers_of(alloc, id, servers, peers)?;
         let left_out = left_out_of(alloc, id, servers, &peers, left_out)?;
         fits_beginning(id, servers, &peers, &left_out, habits.beginning)?;
-        Ok(Plan {
+        Ok(ServicePlan {
             id,
             servers,
             listen,

@@ -3,18 +3,18 @@ ghost use Rattle.std.specs.Prelude.{◌≡◌, ◌≢◌, ◌↔◌, IfSome, IsS
 ghost use Rattle.std.proofs.Props.{props};
 ghost use Rattle.bayou_serve.specs.Greeting.{MayAsk};
 ghost use Rattle.bayou_serve.specs.Receiving.{ServedOver, first_by};
-ghost use Rattle.bayou_serve.specs.declared.lookups.Next.TheVariants.{Request};
-ghost use Rattle.bayou_serve.specs.declared.reception.Front.TheVariants.{Kind, Short};
+ghost use Rattle.bayou_serve.specs.declared.lookups.NextLookup.TheVariants.{Request};
+ghost use Rattle.bayou_serve.specs.declared.reception.FrameFront.TheVariants.{Kind, Short};
 
 use crate::answering::answer_guest;
 use crate::comparing::Comparison;
 use crate::greeting::{LetIn, receive_guest};
-use crate::hall::Hall;
-use crate::lookups::{Next, answer_lookups};
+use crate::hall::ServiceHall;
+use crate::lookups::{NextLookup, answer_lookups};
 use crate::peers::is_timed;
-use crate::rooms::{Place, Rooms};
+use crate::rooms::{RoomPlace, Rooms};
 use crate::teller::Teller;
-use crate::waiting::{Heard, Most, Since, Told, Waiting};
+use crate::waiting::{Most, PatientInput, PatientOutput, PatientWait, Since};
 use bayou_base::ServerId;
 use bayou_base::limits::{LINGER_MILLISECONDS, MAX_WAITS, PAUSE_SECONDS, TICK_MILLISECONDS};
 use bayou_device::Device;
@@ -39,7 +39,7 @@ const FRONT_MILLISECONDS: u64 = 50;
 #[derive(Drop)]
 pub(crate) struct Reception<'a, D, L: Desks, C, E> {
     pub(crate) node: &'a Node<D, L>,
-    pub(crate) hall: &'a Hall,
+    pub(crate) hall: &'a ServiceHall,
     pub(crate) rooms: &'a Rooms,
     pub(crate) clock: &'a C,
     pub(crate) teller: &'a Teller<E>,
@@ -71,15 +71,15 @@ struct Received<L: Desks> {
 
 /// What is heard and told by the streams of a connection that has a place.
 pub(crate) type PlacedChannel<'a, R, W, C> = CountedChannel<
-    Patient<Heard<'a, R, C>, Waiting<'a, C>>,
-    Told<'a, W, Waiting<'a, C>, C>,
+    Patient<PatientInput<'a, R, C>, PatientWait<'a, C>>,
+    PatientOutput<'a, W, PatientWait<'a, C>, C>,
 >;
 
 /// The channel over these streams, whose waits end by `WouldBlock`: both are waited for as long as the place is kept.
 pub(crate) fn channel_over<'a, C: Clock, R, W>(
-    hall: &'a Hall,
+    hall: &'a ServiceHall,
     clock: &'a C,
-    place: &'a Place,
+    place: &'a RoomPlace,
     reader: R,
     writer: W,
 ) -> PlacedChannel<'a, R, W, C>
@@ -87,11 +87,11 @@ pub(crate) fn channel_over<'a, C: Clock, R, W>(
     ensures writer { result.writer.writer ≡ writer }
 {
     let most = Most::Placed(hall.idle_milliseconds(), place);
-    let patience = Waiting::new(clock, hall, &place.since, most);
-    let heard = Heard::new(reader, clock, place);
+    let patience = PatientWait::new(clock, hall, &place.since, most);
+    let heard = PatientInput::new(reader, clock, place);
     let reader = Patient::new(heard, patience);
-    let patience = Waiting::new(clock, hall, &place.since, most);
-    let writer = Told::new(writer, patience, clock, place);
+    let patience = PatientWait::new(clock, hall, &place.since, most);
+    let writer = PatientOutput::new(writer, patience, clock, place);
     CountedChannel::new(reader, writer)
 }
 
@@ -102,9 +102,9 @@ fn serve_over<D: Device, L: Desks, C: Clock, R: Read + Drop, W: Write + Drop, T:
     node: &Node<D, L>,
     desk: Desk<L>,
     admission: &Admission<'_>,
-    hall: &Hall,
+    hall: &ServiceHall,
     clock: &C,
-    place: &Place,
+    place: &RoomPlace,
     reader: R,
     writer: W,
 ) -> Received<L>
@@ -145,7 +145,7 @@ fn first_of(kind: u8) -> First
 
 /// What is seen of a frame that comes.
 #[derive(Clone, Copy, Debug, PartialEq, Eq)]
-pub(crate) enum Front {
+pub(crate) enum FrameFront {
     /// Its length and its kind came, which is this.
     Kind(u8),
     /// Less came, and no more in time.
@@ -153,19 +153,27 @@ pub(crate) enum Front {
 }
 
 // What is seen of a frame of which so many bytes came, and no more in time where it is late; nothing yet, where more may come.
-fn front_of(front: [u8; 3], count: usize, is_late: bool) -> Option<Front>
+fn front_of(front: [u8; 3], count: usize, is_late: bool) -> Option<FrameFront>
     ensures whole { count ≡ 3 → result ≡ Some (Kind (slice_index front 2)) }
     ensures short { count ≢ 3 → is_late ≡ true → result ≡ Some Short }
     ensures early { count ≢ 3 → is_late ≡ false → result ≡ None }
 {
     if count == front.len() {
-        return Some(Front::Kind(front[2]));
+        return Some(FrameFront::Kind(front[2]));
     }
-    if is_late { Some(Front::Short) } else { None }
+    if is_late {
+        Some(FrameFront::Short)
+    } else {
+        None
+    }
 }
 
 // The front of what comes next over the connection; nothing where nothing comes in time.
-fn front_over<P: Patience, C: Clock>(clock: &C, stream: &TcpStream, patience: P) -> Option<Front> {
+fn front_over<P: Patience, C: Clock>(
+    clock: &C,
+    stream: &TcpStream,
+    patience: P,
+) -> Option<FrameFront> {
     let mut patience = patience;
     let mut front = [0; 3];
     let mut is_begun = false;
@@ -193,24 +201,24 @@ fn front_over<P: Patience, C: Clock>(clock: &C, stream: &TcpStream, patience: P)
 /// As [`front_over`], as long as it is waited for at the most.
 pub(crate) fn front_in_time<'x, C: Clock>(
     clock: &'x C,
-    hall: &'x Hall,
+    hall: &'x ServiceHall,
     since: &'x Since,
     most: Most<'x>,
     stream: &TcpStream,
-) -> Option<Front> {
-    front_over(clock, stream, Waiting::new(clock, hall, since, most))
+) -> Option<FrameFront> {
+    front_over(clock, stream, PatientWait::new(clock, hall, since, most))
 }
 
 // What comes first over the connection, as long as the hall waits for it.
 fn first_in_time<C: Clock>(
     clock: &C,
-    hall: &Hall,
+    hall: &ServiceHall,
     since: &Since,
     stream: &TcpStream,
 ) -> Option<First> {
     match front_in_time(clock, hall, since, Most::Hall, stream)? {
-        Front::Kind(kind) => Some(first_of(kind)),
-        Front::Short => Some(First::Other),
+        FrameFront::Kind(kind) => Some(first_of(kind)),
+        FrameFront::Short => Some(First::Other),
     }
 }
 
@@ -260,16 +268,16 @@ impl<D: Device, L: Desks, C: Clock + RandomSource, E: Write> Reception<'_, D, L,
         rt: &T,
         alloc: Global,
         admission: &Admission<'_>,
-        place: &Place,
+        place: &RoomPlace,
         stream: &TcpStream,
-    ) -> Next
+    ) -> NextLookup
         ensures { admission.now.let_in ≡ None → result ≡ Request }
     {
         match &admission.let_in {
             Some(_) => answer_lookups(
                 rt, alloc, self.node, admission, self.hall, self.clock, place, stream,
             ),
-            None => Next::Request,
+            None => NextLookup::Request,
         }
     }
 
@@ -280,16 +288,16 @@ impl<D: Device, L: Desks, C: Clock + RandomSource, E: Write> Reception<'_, D, L,
         alloc: Global,
         desk: Desk<L>,
         admission: &Admission<'_>,
-        place: &Place,
+        place: &RoomPlace,
         stream: &TcpStream,
     ) -> Received<L> {
         let received = match self.answer_lookups(rt, alloc, admission, place, stream) {
-            Next::Request => serve_over(
+            NextLookup::Request => serve_over(
                 rt, alloc, self.node, desk, admission, self.hall, self.clock, place, stream, stream,
             ),
             next => Received {
                 desk,
-                is_silent: next == Next::Nothing,
+                is_silent: next == NextLookup::Nothing,
             },
         };
         let _ = stream.shutdown(Shutdown::Write);
@@ -300,7 +308,7 @@ impl<D: Device, L: Desks, C: Clock + RandomSource, E: Write> Reception<'_, D, L,
     fn linger(&self, stream: &TcpStream) {
         let since = Since::now(self.clock);
         let most = Most::Milliseconds(LINGER_MILLISECONDS);
-        let patience = Waiting::new(self.clock, self.hall, &since, most);
+        let patience = PatientWait::new(self.clock, self.hall, &since, most);
         drop_rest(&mut CountedChannel::new(Patient::new(stream, patience), ()));
     }
 

@@ -7,7 +7,7 @@ ghost use Rattle.bayou_server.specs.Server.{IsUp};
 
 use crate::deferred::Deferred;
 use crate::fault::{ServeFault, Unrestored, untaken};
-use crate::plan::{Beginning, Plan};
+use crate::plan::{Beginning, ServicePlan};
 use crate::starting::look_for;
 use bayou_base::ServerId;
 use bayou_device::{Device, FileDevice};
@@ -24,11 +24,11 @@ pub(crate) type Part = FileDevice<File>;
 
 /// A journal that was made again. Nothing but [`give_name`] makes one.
 #[derive(Clone, Copy, Debug)]
-pub(crate) struct Restored {
+pub(crate) struct RemadeJournal {
     own: u32,
 }
 
-impl Restored {
+impl RemadeJournal {
     /// How many Writes of its own the server has by it.
     pub(crate) fn own(self) -> u32
         ensures { result ≡ self.own }
@@ -39,7 +39,7 @@ impl Restored {
 
 /// That a server holds all that this peer handed over. Nothing but [`take_all_of`] makes one.
 #[derive(Clone, Copy, Debug)]
-pub(crate) struct Taken {
+pub(crate) struct TakenWhole {
     peer: u8,
 }
 
@@ -58,7 +58,7 @@ fn drawn_run<T: RandomSource>(rt: &T) -> Result<u32, ServeFault>
 // The server that the plan asks for, on a device that is emptied first: a run that was killed may have left something there.
 fn start_empty<D: Device>(
     alloc: Global,
-    plan: &Plan,
+    plan: &ServicePlan,
     part: D,
 ) -> Result<Server<Deferred<D>>, ServeFault>
     ensures started { IfOk result (λ server. (server.core.doubt ≡ None) × (server.core.count ≡ plan.now.servers)) }
@@ -94,7 +94,7 @@ pub(crate) fn take_all_of<D: Device>(
     server: &mut Server<D>,
     gathered: &Gathered,
     peer: ServerId,
-) -> Result<Taken, ServeFault>
+) -> Result<TakenWhole, ServeFault>
     ensures taken { OnOk result (TakesAllOf server.old.core gathered.now.writes server.new.core) }
     ensures whose { IfOk result (λ taken. taken.peer ≡ peer.index) }
     ensures fault { IfErr result MayEndRestoring }
@@ -105,7 +105,7 @@ pub(crate) fn take_all_of<D: Device>(
     };
     let told = server.take_next(alloc, &mut writes.into_iter(), number);
     match told.refused {
-        None => Ok(Taken { peer: peer.index }),
+        None => Ok(TakenWhole { peer: peer.index }),
         Some(refused) => Err(untaken(peer, refused.fault)),
     }
 }
@@ -115,7 +115,7 @@ pub(crate) fn take_all_of<D: Device>(
 pub(crate) fn made_on<D: Device, T: RandomSource>(
     rt: &T,
     alloc: Global,
-    plan: &Plan,
+    plan: &ServicePlan,
     part: D,
     gathered: &Gathered,
 ) -> Result<Server<Deferred<D>>, ServeFault>
@@ -144,12 +144,12 @@ fn synced<D: Device>(server: Server<Deferred<D>>) -> Result<D, ServeFault>
 /// All that each peer has was taken before. That it has its name no clause can say.
 pub(crate) fn give_name<T: Files<File = File>>(
     rt: &T,
-    plan: &Plan,
+    plan: &ServicePlan,
     path: &str,
     part: &str,
     server: Server<Deferred<Part>>,
-    taken: &[Taken],
-) -> Result<Restored, ServeFault>
+    taken: &[TakenWhole],
+) -> Result<RemadeJournal, ServeFault>
     requires { AreFromEach plan.now.peers.items taken.now }
     ensures own { IfOk result (λ restored. restored.own ≡ slice_index (count_of server.core.held) plan.now.id.index) }
     ensures fault { IfErr result MayEndRestoring }
@@ -162,5 +162,5 @@ pub(crate) fn give_name<T: Files<File = File>>(
         return Err(ServeFault::NotRestored(Unrestored::Device));
     }
     drop(device);
-    Ok(Restored { own })
+    Ok(RemadeJournal { own })
 }

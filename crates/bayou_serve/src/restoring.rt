@@ -10,16 +10,16 @@ ghost use Rattle.bayou_serve.specs.Remade.{AreFromEach, IsRestoring, TakesEachOf
 
 use crate::fault::{ServeFault, Unrestored};
 use crate::greeting::{Way, stranger_line, way_to};
-use crate::hall::Hall;
+use crate::hall::ServiceHall;
 use crate::left_out::{forget_left_out, keep_left_out};
 use crate::lines::news_line;
 use crate::pace::Pace;
-use crate::plan::{Beginning, Peer, Plan};
-use crate::remaking::{Part, Restored, Taken, give_name, made_on, take_all_of};
+use crate::plan::{Beginning, Peer, ServicePlan};
+use crate::remaking::{Part, RemadeJournal, TakenWhole, give_name, made_on, take_all_of};
 use crate::starting::look_for;
 use crate::teller::Teller;
 use crate::visit::News;
-use crate::waiting::{Most, Renewing, Since, Waiting};
+use crate::waiting::{Most, PatientStream, PatientWait, Since};
 use bayou_base::limits::PEER_ANSWER_MILLISECONDS;
 use bayou_base::{MAX_WRITES, ServerId, Vector};
 use bayou_device::{Device, FileDevice};
@@ -40,7 +40,7 @@ use std::time::Clock;
 
 /// What a peer handed over, and that peer's number.
 #[derive(Drop)]
-pub(crate) struct Answer {
+pub(crate) struct PeerAnswer {
     peer: u8,
     gathered: Gathered,
 }
@@ -49,8 +49,8 @@ pub(crate) struct Answer {
 fn gather_over<'x, R: Read + Drop, W: Write + Drop, T: Clock>(
     rt: &'x T,
     alloc: Global,
-    plan: &Plan,
-    hall: &'x Hall,
+    plan: &ServicePlan,
+    hall: &'x ServiceHall,
     since: &'x Since,
     pace: &'x Pace,
     reader: R,
@@ -59,9 +59,9 @@ fn gather_over<'x, R: Read + Drop, W: Write + Drop, T: Clock>(
     ensures { IfOk result (λ gathered. gathered.count ≡ plan.now.servers) }
 {
     let most = Most::Paced(PEER_ANSWER_MILLISECONDS, pace);
-    let patience = Waiting::new(rt, hall, since, most);
-    let reader = Renewing::paced(Patient::new(reader, patience), rt, since, pace);
-    let writer = Renewing::new(writer, rt, since);
+    let patience = PatientWait::new(rt, hall, since, most);
+    let reader = PatientStream::paced(Patient::new(reader, patience), rt, since, pace);
+    let writer = PatientStream::new(writer, rt, since);
     let mut channel = CountedChannel::new(reader, writer);
     let mut gathered = Gathered::new(alloc, plan.servers, MAX_WRITES);
     match pull_from_on(alloc, &mut gathered, &Vector::zero(), &mut channel) {
@@ -84,10 +84,10 @@ enum Gathering {
 fn gather_from<T: Clock + RandomSource + Sockets>(
     rt: &T,
     alloc: Global,
-    plan: &Plan,
+    plan: &ServicePlan,
     own: &StoreServer,
     peer: Peer,
-    hall: &Hall,
+    hall: &ServiceHall,
 ) -> Gathering
     ensures { (answer : Result Gatherer PullFailure) → result ≡ Answered answer → IfOk answer (λ gathered. gathered.count ≡ plan.now.servers) }
 {
@@ -103,7 +103,7 @@ fn gather_from<T: Clock + RandomSource + Sockets>(
 
 // Of two answers the one with more Writes of the server: the first, where both have as many. Under each name of it that both have they must
 // have the same.
-fn better_of(best: Answer, other: Answer, id: ServerId) -> Result<Answer, ServeFault>
+fn better_of(best: PeerAnswer, other: PeerAnswer, id: ServerId) -> Result<PeerAnswer, ServeFault>
     ensures { ChoosesAnswer id.index best other result }
 {
     if let Some(number) = first_difference(&best.gathered, &other.gathered, id) {
@@ -121,7 +121,11 @@ fn better_of(best: Answer, other: Answer, id: ServerId) -> Result<Answer, ServeF
 }
 
 // The better of the best so far and of one more.
-fn with_answer(best: Option<Answer>, more: Answer, id: ServerId) -> Result<Answer, ServeFault>
+fn with_answer(
+    best: Option<PeerAnswer>,
+    more: PeerAnswer,
+    id: ServerId,
+) -> Result<PeerAnswer, ServeFault>
     ensures first { best ≡ None → result ≡ Ok more }
     ensures next { IfSome best (λ best. ChoosesAnswer id.index best more result) }
 {
@@ -134,9 +138,9 @@ fn with_answer(best: Option<Answer>, more: Answer, id: ServerId) -> Result<Answe
 /// Who asks, for which server, and where it reports.
 #[derive(Drop)]
 struct Asking<'a, E> {
-    plan: &'a Plan,
+    plan: &'a ServicePlan,
     own: &'a StoreServer,
-    hall: &'a Hall,
+    hall: &'a ServiceHall,
     teller: &'a Teller<E>,
 }
 
@@ -185,11 +189,11 @@ fn gather<E: Write, T: Wait + Clock + RandomSource + Sockets>(
     ensures fault { IfErr result MayEndRestoring }
 {
     let plan = asking.plan;
-    let mut best: Option<Answer> = None;
+    let mut best: Option<PeerAnswer> = None;
     for peer in plan.peers.iter() {
         let gathered = answer_of(rt, alloc, asking, *peer)?;
         let peer = peer.id.index;
-        best = Some(with_answer(best, Answer { peer, gathered }, plan.id)?);
+        best = Some(with_answer(best, PeerAnswer { peer, gathered }, plan.id)?);
     }
     match best {
         Some(best) => Ok(best.gathered),
@@ -205,12 +209,12 @@ fn take_from_each<D: Device, E: Write, T: Wait + Clock + RandomSource + Sockets>
     asking: &Asking<'_, E>,
     peers: &[Peer],
     server: &mut Server<D>,
-) -> Result<Vec<Taken>, ServeFault>
+) -> Result<Vec<TakenWhole>, ServeFault>
     ensures each { IfOk result (λ taken. AreFromEach peers.now taken.items) }
     ensures taken { IfOk result (λ taken. (answers : List (List Made)) × (length answers ≡ length taken.items) × TakesEachOf server.old.core answers server.new.core) }
     ensures fault { IfErr result MayEndRestoring }
 {
-    let mut taken: Vec<Taken> = Vec::new(alloc);
+    let mut taken: Vec<TakenWhole> = Vec::new(alloc);
     for peer in peers {
         let gathered = answer_of(rt, alloc, asking, *peer)?;
         let one = take_all_of(alloc, server, &gathered, peer.id)?;
@@ -232,7 +236,7 @@ fn restored_on<E, T>(
     without: &str,
     device: Part,
     gathered: Gathered,
-) -> Result<Restored, ServeFault>
+) -> Result<RemadeJournal, ServeFault>
 where
     E: Write,
     T: Wait + Clock + Files<File = File> + RandomSource + Sockets,
@@ -252,8 +256,8 @@ where
 fn tell_restored<E: Write, T: Wait>(
     rt: &T,
     alloc: Global,
-    plan: &Plan,
-    restored: Restored,
+    plan: &ServicePlan,
+    restored: RemadeJournal,
     teller: &Teller<E>,
 ) {
     let own = restored.own();
@@ -275,12 +279,12 @@ fn tell_restored<E: Write, T: Wait>(
 pub(crate) fn restore_journal<E, T>(
     rt: &T,
     alloc: Global,
-    plan: &Plan,
+    plan: &ServicePlan,
     own: &StoreServer,
     path: &str,
     without: &str,
     teller: &Teller<E>,
-) -> Result<Restored, ServeFault>
+) -> Result<RemadeJournal, ServeFault>
 where
     E: Write,
     T: Wait + Clock + Files<File = File> + RandomSource + Sockets,
@@ -288,7 +292,7 @@ where
     ensures fault { IfErr result MayEndRestoring }
 {
     look_for(rt, path, Beginning::Restore)?;
-    let hall = Hall::new(plan.habits.connections, plan.habits.idle_seconds);
+    let hall = ServiceHall::new(plan.habits.connections, plan.habits.idle_seconds);
     let asking = Asking {
         plan,
         own,

@@ -5,10 +5,10 @@ ghost use Rattle.bayou_serve.specs.Losing.{AsksForOwn};
 
 use crate::compared_way::compared_way_to;
 use crate::greeting::Way;
-use crate::hall::Hall;
+use crate::hall::ServiceHall;
 use crate::peers::Visiting;
 use crate::plan::Peer;
-use crate::waiting::{Most, Since, Waiting};
+use crate::waiting::{Most, PatientWait, Since};
 use bayou_base::ServerId;
 use bayou_base::limits::STARTING_SECONDS;
 use bayou_device::Device;
@@ -39,7 +39,7 @@ fn asked_over<'x, D: Device, L: Desks, R: Read + Drop, W: Write + Drop, T: Wait 
     rt: &'x T,
     alloc: Global,
     node: &Node<D, L>,
-    hall: &'x Hall,
+    hall: &'x ServiceHall,
     since: &'x Since,
     reader: R,
     writer: W,
@@ -47,7 +47,7 @@ fn asked_over<'x, D: Device, L: Desks, R: Read + Drop, W: Write + Drop, T: Wait 
     ensures { AsksForOwn L.begun (R.remaining reader) (W.contents writer) result }
 {
     let most = Most::Milliseconds(STARTING_SECONDS * 1_000);
-    let reader = Patient::new(reader, Waiting::new(rt, hall, since, most));
+    let reader = Patient::new(reader, PatientWait::new(rt, hall, since, most));
     let mut channel = CountedChannel::new(reader, writer);
     let id = node.id();
     let own = node.offer(rt).get(id);

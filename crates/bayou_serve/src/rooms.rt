@@ -2,7 +2,7 @@
 ghost use Rattle.std.specs.Prelude.{◌≡◌, ◌≢◌, ◌+◌, ◌≤◌, ◌⊎◌, ◌↔◌, Contains, IfOk, IfSome, false, true, vec_len};
 ghost use Rattle.bayou_base.specs.declared.limits.TheConstants.{CROWDED_MILLISECONDS};
 
-use crate::hall::Hall;
+use crate::hall::ServiceHall;
 use crate::waiting::{Since, is_over, milliseconds};
 use bayou_base::limits::{CROWDED_MILLISECONDS, MAX_WAITS, WAITING_CONNECTIONS};
 use std::alloc::{AllocError, Global};
@@ -29,7 +29,7 @@ fn is_to_go(state: u64, now: u64, asked: u64) -> bool
 
 /// One place of a room, for one connection at a time.
 #[derive(Drop)]
-pub struct Place {
+pub struct RoomPlace {
     state: AtomicU64,
     /// Since when the connection there asks nothing, and what it is sent doesn't get on.
     pub since: Since,
@@ -37,9 +37,9 @@ pub struct Place {
     asked: AtomicU64,
 }
 
-impl Place {
+impl RoomPlace {
     fn new() -> Self {
-        Place {
+        RoomPlace {
             state: AtomicU64::new(FREE),
             since: Since::never(),
             asked: AtomicU64::new(0),
@@ -95,7 +95,7 @@ impl Place {
 /// Places, so many, and how many connections wait for one.
 #[derive(Drop)]
 pub struct Room {
-    places: Vec<Place>,
+    places: Vec<RoomPlace>,
     waiting: AtomicU64,
 }
 
@@ -106,7 +106,7 @@ impl Room {
     {
         let mut all = Vec::new(alloc);
         for _ in 0..places {
-            all.push(Place::new())?;
+            all.push(RoomPlace::new())?;
         }
         Ok(Room {
             places: all,
@@ -122,7 +122,7 @@ impl Room {
     }
 
     // A free place, which is taken then. Which one is free no clause can say.
-    fn take(&self, now: u64) -> Option<&Place>
+    fn take(&self, now: u64) -> Option<&RoomPlace>
         ensures { IfSome result (λ place. Contains self.now.places.items place.now) }
     {
         for place in self.places.iter() {
@@ -135,7 +135,7 @@ impl Room {
 
     // Calls out the connection that asks nothing the longest, if it did so for so long: whether one was called.
     fn call_longest(&self, now: u64, least: u64) -> bool {
-        let mut longest: Option<&Place> = None;
+        let mut longest: Option<&RoomPlace> = None;
         let mut since = now.saturating_sub(least).saturating_add(1);
         for place in self.places.iter() {
             let its = place.since.began();
@@ -152,7 +152,7 @@ impl Room {
 
     // Waits for a place, until the server ends. Whoever asks nothing for a second is called out for it at once, and after each second of waiting
     // whoever asks nothing the longest.
-    fn wait<C: Clock>(&self, clock: &C, hall: &Hall) -> Option<&Place>
+    fn wait<C: Clock>(&self, clock: &C, hall: &ServiceHall) -> Option<&RoomPlace>
         ensures { IfSome result (λ place. Contains self.now.places.items place.now) }
     {
         let mut since = milliseconds(clock);
@@ -186,7 +186,7 @@ impl Room {
     }
 
     /// A place for one connection, which may have to wait for it; none where too many wait, or the server ends.
-    pub fn enter<C: Clock>(&self, clock: &C, hall: &Hall) -> Option<&Place>
+    pub fn enter<C: Clock>(&self, clock: &C, hall: &ServiceHall) -> Option<&RoomPlace>
         ensures { IfSome result (λ place. Contains self.now.places.items place.now) }
     {
         if self.waiting.load(Ordering::SeqCst) == 0

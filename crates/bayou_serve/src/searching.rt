@@ -7,7 +7,7 @@ ghost use Rattle.bayou_wire.specs.declared.greeting.Greeting.TheVariants.{Digest
 ghost use Rattle.bayou_wire.specs.declared.greeting.Inquiry.{Inquiry as Asked};
 
 use crate::comparing::Comparison;
-use crate::held_digests::Span;
+use crate::held_digests::DigestSpan;
 use arrayvec::ArrayVec;
 use bayou_base::ServerId;
 use bayou_frames::send;
@@ -67,7 +67,7 @@ pub(crate) fn search<R: Read, W: Write, T: Wait>(
 ) -> Option<u32>
     ensures { IfSome result (λ first. first ≤ count) }
 {
-    let mut span = Span {
+    let mut span = DigestSpan {
         low: 0,
         high: count,
     };

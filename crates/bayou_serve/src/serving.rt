@@ -13,21 +13,21 @@ use crate::comparing::Comparison;
 use crate::descriptors::look_for_descriptors;
 use crate::fault::ServeFault;
 use crate::greeting::store_server;
-use crate::hall::Hall;
+use crate::hall::ServiceHall;
 use crate::keeper::keep_up;
 use crate::left_out::look_for_left_out;
-use crate::marking::{Mark, UNMARKED, look_for_mark, lose, open_mark, put_away};
+use crate::marking::{ServerMark, UNMARKED, look_for_mark, lose, open_mark, put_away};
 use crate::peers::{Visiting, keep_pulling};
-use crate::plan::{Beginning, Plan};
+use crate::plan::{Beginning, ServicePlan};
 use crate::reception::Reception;
 use crate::restoring::restore_journal;
 use crate::rollcall::Rollcall;
 use crate::rooms::{Room, Rooms};
-use crate::starting::{Careful, Started, forget_new, start_at};
+use crate::starting::{Careful, StartedServer, forget_new, start_at};
 use crate::staying::until_input_ends;
-use crate::straying::{Journal, keep_watch};
+use crate::straying::{LivingJournal, keep_watch};
 use crate::teller::Teller;
-use crate::watched::Extent;
+use crate::watched::FileExtent;
 use bayou_base::limits::{DESKS_OF_A_PEER, WAITING_CONNECTIONS};
 use bayou_device::Device;
 use bayou_greeting::StoreKey;
@@ -54,12 +54,12 @@ use std::time::Clock;
 /// What is served, and what says when it ends.
 #[derive(Drop)]
 struct Life<'s, D, L: Desks, M: Device, E> {
-    plan: &'s Plan,
-    journal: Journal<'s>,
+    plan: &'s ServicePlan,
+    journal: LivingJournal<'s>,
     node: &'s Node<D, L>,
     listener: &'s TcpListener,
-    hall: &'s Hall,
-    mark: &'s Mark<M>,
+    hall: &'s ServiceHall,
+    mark: &'s ServerMark<M>,
     teller: &'s Teller<E>,
     rollcall: &'s Rollcall,
     rooms: &'s Rooms,
@@ -266,12 +266,12 @@ fn print_serving<D: Device, L: Desks, M: Device, W: Write, E, T: Wait>(
 fn begin<'e, E, T>(
     rt: &T,
     alloc: Global,
-    plan: &Plan,
+    plan: &ServicePlan,
     own: &StoreServer,
     path: &str,
-    extent: &'e Extent,
+    extent: &'e FileExtent,
     teller: &Teller<E>,
-) -> Result<Started<'e>, ServeFault>
+) -> Result<StartedServer<'e>, ServeFault>
 where
     E: Write,
     T: Wait + Clock + Files<File = File> + RandomSource + Sockets,
@@ -417,7 +417,7 @@ where
 }
 
 // How many connections of peers are served at once.
-fn desks_of_peers(plan: &Plan) -> u32
+fn desks_of_peers(plan: &ServicePlan) -> u32
     ensures { result ≡ min (DESKS_OF_A_PEER * vec_len plan.now.peers) (2 ^ 32 - 1) }
 {
     let peers = u32::try_from(plan.peers.len()).unwrap_or(u32::MAX);
@@ -425,7 +425,7 @@ fn desks_of_peers(plan: &Plan) -> u32
 }
 
 // How many threads take connections: for each that is served at once one, and for each that may wait.
-fn threads_of(plan: &Plan) -> u32
+fn threads_of(plan: &ServicePlan) -> u32
     ensures { plan.now.habits.connections ≤ result }
 {
     plan.habits
@@ -441,12 +441,12 @@ fn serve_node<L, M, I, W, E, T>(
     blank: Blank,
     threads: u32,
     server: Server<Careful<'_>>,
-    journal: Journal<'_>,
-    plan: &Plan,
+    journal: LivingJournal<'_>,
+    plan: &ServicePlan,
     own: &StoreServer,
     comparison: &Comparison,
     listener: &TcpListener,
-    mark: &Mark<M>,
+    mark: &ServerMark<M>,
     input: I,
     output: &mut Output<W>,
     teller: &Teller<E>,
@@ -475,7 +475,7 @@ where
     let Ok(copy) = listener.try_clone() else {
         return Err(ServeFault::Port);
     };
-    let hall = Hall::new(threads, plan.habits.idle_seconds);
+    let hall = ServiceHall::new(threads, plan.habits.idle_seconds);
     let rollcall = Rollcall::of(rt, plan.peers.len());
     let life = Life {
         plan,
@@ -529,7 +529,7 @@ fn tell_dropped<E: Write, T: Wait>(
     rt: &T,
     alloc: Global,
     path: &str,
-    started: &Started<'_>,
+    started: &StartedServer<'_>,
     teller: &Teller<E>,
 ) {
     if let Some(line) = dropped_line(alloc, path, started.dropped, started.entry) {
@@ -541,12 +541,12 @@ fn tell_dropped<E: Write, T: Wait>(
 fn serve_started<M, I, W, E, T>(
     rt: &T,
     alloc: Global,
-    paths: Paths<'_>,
-    plan: &Plan,
+    paths: ServicePaths<'_>,
+    plan: &ServicePlan,
     own: &StoreServer,
-    started: Started<'_>,
-    extent: &Extent,
-    mark: &Mark<M>,
+    started: StartedServer<'_>,
+    extent: &FileExtent,
+    mark: &ServerMark<M>,
     input: I,
     output: &mut Output<W>,
     teller: &Teller<E>,
@@ -566,13 +566,13 @@ where
 {
     let path = paths.journal;
     tell_dropped(rt, alloc, path, &started, teller);
-    let Started {
+    let StartedServer {
         server,
         file,
         without,
         ..
     } = started;
-    let journal = Journal {
+    let journal = LivingJournal {
         path,
         file,
         extent,
@@ -607,7 +607,7 @@ where
 
 /// The files of a server, by their names.
 #[derive(Clone, Copy, Debug)]
-pub struct Paths<'a> {
+pub struct ServicePaths<'a> {
     pub journal: &'a str,
     /// What says of which store the journal is.
     pub label: &'a str,
@@ -620,9 +620,9 @@ pub struct Paths<'a> {
 pub fn serve_plan<I, W, E, T>(
     rt: &T,
     alloc: Global,
-    paths: Paths<'_>,
+    paths: ServicePaths<'_>,
     key: Option<StoreKey>,
-    plan: &Plan,
+    plan: &ServicePlan,
     input: I,
     output: &mut Output<W>,
     teller: &Teller<E>,
@@ -641,7 +641,7 @@ where
     let _ = look_for_label(rt, alloc, paths.label, &own.key)?;
     let mark_path = format!(in alloc; "{path}.mark")?;
     look_for_mark(rt, mark_path.as_str(), beginning)?;
-    let extent = Extent::unknown();
+    let extent = FileExtent::unknown();
     let started = begin(rt, alloc, plan, &own, path, &extent, teller)?;
     let mut is_open = false;
     let ended = match open_mark(rt, alloc, mark_path.as_str(), beginning) {

@@ -6,9 +6,9 @@ ghost use Rattle.bayou_serve.specs.declared.plan.Beginning.TheVariants.{GoOn, Ne
 ghost use Rattle.bayou_serve.specs.declared.fault.ServeFault.TheVariants.{Missing, NotOpened, Present};
 
 use crate::fault::{ServeFault, fault_of};
-use crate::plan::{Beginning, Plan};
+use crate::plan::{Beginning, ServicePlan};
 use crate::straying::Identity;
-use crate::watched::{Extent, Watched};
+use crate::watched::{FileExtent, Watched};
 use bayou_base::ServerId;
 use bayou_device::FileDevice;
 use bayou_journal::format::HEADER_BYTES;
@@ -24,7 +24,7 @@ pub(crate) type Careful<'e> = CarefulDevice<Watched<'e, FileDevice<File>>>;
 
 /// A server with its journal in a file, and how many bytes of a torn entry were cut; an entry that had all its bytes is reported by itself.
 #[derive(Drop)]
-pub(crate) struct Started<'e> {
+pub(crate) struct StartedServer<'e> {
     pub(crate) server: Server<Careful<'e>>,
     /// Which file its journal is.
     pub(crate) file: Identity,
@@ -123,11 +123,11 @@ pub(crate) fn forget_new<T: Files<File = File>>(rt: &T, path: &str, beginning: B
 pub(crate) fn start_at<'e, T: Files<File = File>>(
     rt: &T,
     alloc: Global,
-    plan: &Plan,
+    plan: &ServicePlan,
     path: &str,
     beginning: Beginning,
-    extent: &'e Extent,
-) -> Result<Started<'e>, ServeFault>
+    extent: &'e FileExtent,
+) -> Result<StartedServer<'e>, ServeFault>
     ensures started { IfOk result (λ started. (started.server.core.id ≡ plan.now.id.index) × (started.server.core.count ≡ plan.now.servers) × (started.server.core.limit ≡ plan.now.habits.limit)) }
     ensures fault { IfErr result (MayEndStart beginning) }
 {
@@ -136,7 +136,7 @@ pub(crate) fn start_at<'e, T: Files<File = File>>(
     match Server::start(alloc, plan.id, plan.servers, plan.habits.limit, device) {
         Ok((server, dropped)) => {
             let entry = server.see_device().entry();
-            Ok(Started {
+            Ok(StartedServer {
                 server,
                 file: identity,
                 dropped,

@@ -1,7 +1,7 @@
 //! How a server that serves learns that it is to end: its input ends.
 ghost use Rattle.std.specs.Thread.{IsSend};
 
-use crate::hall::Hall;
+use crate::hall::ServiceHall;
 use crate::teller::Teller;
 use std::io::{Read, Write};
 use std::sync::Wait;
@@ -20,7 +20,7 @@ fn await_end<I: Read, T: Wait>(rt: &T, input: &mut I) {
 }
 
 // Ends the server once the input ends.
-fn end_with<I: Read + Drop, T: Wait>(rt: &T, input: I, hall: &Hall) {
+fn end_with<I: Read + Drop, T: Wait>(rt: &T, input: I, hall: &ServiceHall) {
     let mut input = input;
     await_end(rt, &mut input);
     hall.end();
@@ -30,7 +30,7 @@ fn end_with<I: Read + Drop, T: Wait>(rt: &T, input: I, hall: &Hall) {
 pub(crate) fn until_input_ends<I, E, T, X, F>(
     rt: &T,
     input: I,
-    hall: &Hall,
+    hall: &ServiceHall,
     teller: &Teller<E>,
     meanwhile: F,
 ) -> X

@@ -6,11 +6,11 @@ ghost use Rattle.bayou_serve.specs.declared.straying.Sight.{Sight as Seen};
 ghost use Rattle.bayou_serve.specs.Straying.{same_file, strays};
 ghost use Rattle.bayou_serve.specs.Told.{straying_text};
 
-use crate::hall::Hall;
-use crate::notice::Notice;
+use crate::hall::ServiceHall;
+use crate::notice::NoticeTime;
 use crate::peers::rest;
 use crate::teller::Teller;
-use crate::watched::{Bounds, Extent, is_as_written};
+use crate::watched::{Bounds, FileExtent, is_as_written};
 use bayou_base::ServerId;
 use std::alloc::{AllocError, Global};
 use std::fs::{File, Files, Metadata};
@@ -114,15 +114,15 @@ fn sight_of(found: io::Result<Metadata>) -> io::Result<Option<Sight>>
 /// The journal of a server that lives: its name, which file it is, how long that is to be, and without whom it was last made again, if somebody was left
 /// out.
 #[derive(Clone, Copy)]
-pub(crate) struct Journal<'s> {
+pub(crate) struct LivingJournal<'s> {
     pub(crate) path: &'s str,
     pub(crate) file: Identity,
-    pub(crate) extent: &'s Extent,
+    pub(crate) extent: &'s FileExtent,
     pub(crate) without: Option<ServerId>,
 }
 
 // What became of the journal, if anything did. What can't be seen is looked at again later.
-fn look<T: Files<File = File>>(rt: &T, journal: Journal<'_>) -> Option<Straying> {
+fn look<T: Files<File = File>>(rt: &T, journal: LivingJournal<'_>) -> Option<Straying> {
     let before = journal.extent.bounds();
     let found = sight_of(fs::metadata(rt, journal.path)).ok()?;
     straying_of(found, journal.file, before, journal.extent.bounds())
@@ -151,12 +151,12 @@ fn tell_straying<E: Write, T: Wait>(
 pub(crate) fn keep_watch<E: Write, T: Wait + Clock + Files<File = File>>(
     rt: &T,
     alloc: Global,
-    journal: Journal<'_>,
+    journal: LivingJournal<'_>,
     every_seconds: u32,
-    hall: &Hall,
+    hall: &ServiceHall,
     teller: &Teller<E>,
 ) {
-    let told = Notice::new();
+    let told = NoticeTime::new();
     let mut known: Option<Straying> = None;
     for _ in rt.forever() {
         if hall.is_over() {

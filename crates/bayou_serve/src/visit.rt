@@ -22,7 +22,7 @@ pub enum Visit {
 
 /// What is known after a visit to a peer.
 #[derive(Clone, Copy, Debug, PartialEq, Eq)]
-pub struct Outcome {
+pub struct VisitOutcome {
     pub visit: Visit,
     /// Whether the peer told that the server lost Writes of its own.
     pub has_lost: bool,
@@ -65,7 +65,7 @@ fn is_loss(server: ServerId, stopped: &PullStopped) -> bool
 }
 
 /// What is known after a visit of this server whose pull ended so.
-pub fn outcome_of(server: ServerId, ended: Result<Pulled, PullStopped>) -> Outcome
+pub fn outcome_of(server: ServerId, ended: Result<Pulled, PullStopped>) -> VisitOutcome
     ensures whole { IfOk ended (λ pulled. (result.visit ≡ Came pulled) × (result.has_lost ≡ false)) }
     ensures some { IfErr ended (λ stopped. 0 < stopped.before.taken → result.visit ≡ Came stopped.before) }
     ensures none { IfErr ended (λ stopped. stopped.before.taken ≡ 0 → result.visit ≡ Failed stopped.fault) }
@@ -75,7 +75,7 @@ pub fn outcome_of(server: ServerId, ended: Result<Pulled, PullStopped>) -> Outco
         Ok(_) => false,
         Err(stopped) => is_loss(server, stopped),
     };
-    Outcome {
+    VisitOutcome {
         visit: visit_of(ended),
         has_lost,
     }

@@ -3,9 +3,9 @@ ghost use Rattle.std.specs.Duration.{as_nanos};
 ghost use Rattle.std.specs.Prelude.{◌≡◌, ◌+◌, ◌-◌, ◌*◌, ◌/◌, ◌^◌, ◌<◌, ◌≤◌, ◌↔◌, IfErr, IfOk, false, min, true};
 ghost use Rattle.bayou_base.specs.declared.limits.TheConstants.{LEAST_BYTES_A_SECOND};
 
-use crate::hall::Hall;
+use crate::hall::ServiceHall;
 use crate::pace::Pace;
-use crate::rooms::Place;
+use crate::rooms::RoomPlace;
 use bayou_base::limits::{LEAST_BYTES_A_SECOND, MAX_WAITS};
 use bayou_streams::Patience;
 use std::io;
@@ -100,15 +100,15 @@ pub enum Most<'a> {
     /// So many milliseconds, and as long as what comes keeps this pace.
     Paced(u64, &'a Pace),
     /// So many milliseconds, and until whoever has this place is called out.
-    Placed(u64, &'a Place),
+    Placed(u64, &'a RoomPlace),
 }
 
 /// Waits as long as there is patience and the server doesn't end. Patience counts from the last reply: whoever sends bytes without ever
 /// making a request of them has no more of it than who says nothing.
 #[derive(Drop)]
-pub struct Waiting<'a, C> {
+pub struct PatientWait<'a, C> {
     clock: &'a C,
-    hall: &'a Hall,
+    hall: &'a ServiceHall,
     since: &'a Since,
     most: Most<'a>,
     is_out: bool,
@@ -116,12 +116,12 @@ pub struct Waiting<'a, C> {
     asked: u64,
 }
 
-impl<'a, C> Waiting<'a, C> {
+impl<'a, C> PatientWait<'a, C> {
     /// Waits so long, by this clock.
-    pub fn new(clock: &'a C, hall: &'a Hall, since: &'a Since, most: Most<'a>) -> Self
+    pub fn new(clock: &'a C, hall: &'a ServiceHall, since: &'a Since, most: Most<'a>) -> Self
         ensures { result.is_out ≡ false }
     {
-        Waiting {
+        PatientWait {
             clock,
             hall,
             since,
@@ -132,7 +132,7 @@ impl<'a, C> Waiting<'a, C> {
     }
 }
 
-impl<C: Clock> Patience for Waiting<'_, C> {
+impl<C: Clock> Patience for PatientWait<'_, C> {
     ghost use Rattle.std.specs.Prelude.{◌≡◌, true};
 
     ghost is_out = { λ waiting. waiting.is_out ≡ true };
@@ -158,7 +158,7 @@ impl<C: Clock> Patience for Waiting<'_, C> {
 
 /// A stream from or to another end, which is waited for anew with each piece that moves.
 #[derive(Drop)]
-pub struct Renewing<'a, S, C> {
+pub struct PatientStream<'a, S, C> {
     stream: S,
     clock: &'a C,
     since: &'a Since,
@@ -166,12 +166,12 @@ pub struct Renewing<'a, S, C> {
     pace: Option<&'a Pace>,
 }
 
-impl<'a, S, C> Renewing<'a, S, C> {
+impl<'a, S, C> PatientStream<'a, S, C> {
     /// The stream, by which that time begins anew.
     pub fn new(stream: S, clock: &'a C, since: &'a Since) -> Self
         ensures { result.stream ≡ stream }
     {
-        Renewing {
+        PatientStream {
             stream,
             clock,
             since,
@@ -183,7 +183,7 @@ impl<'a, S, C> Renewing<'a, S, C> {
     pub fn paced(stream: S, clock: &'a C, since: &'a Since, pace: &'a Pace) -> Self
         ensures { result.stream ≡ stream }
     {
-        Renewing {
+        PatientStream {
             stream,
             clock,
             since,
@@ -192,7 +192,7 @@ impl<'a, S, C> Renewing<'a, S, C> {
     }
 }
 
-impl<R: Read, C: Clock> Read for Renewing<'_, R, C> {
+impl<R: Read, C: Clock> Read for PatientStream<'_, R, C> {
     ghost remaining = { λ renewing. R.remaining renewing.stream };
 
     fn read(&mut self, buf: &mut [u8]) -> io::Result<usize> {
@@ -205,7 +205,7 @@ impl<R: Read, C: Clock> Read for Renewing<'_, R, C> {
     }
 }
 
-impl<W: Write, C: Clock> Write for Renewing<'_, W, C> {
+impl<W: Write, C: Clock> Write for PatientStream<'_, W, C> {
     ghost contents = { λ renewing. W.contents renewing.stream };
 
     fn write(&mut self, buf: &[u8]) -> io::Result<usize> {
@@ -221,18 +221,18 @@ impl<W: Write, C: Clock> Write for Renewing<'_, W, C> {
 
 /// What comes from a connection that has a place.
 #[derive(Drop)]
-pub struct Heard<'a, R, C> {
+pub struct PatientInput<'a, R, C> {
     reader: R,
     clock: &'a C,
-    place: &'a Place,
+    place: &'a RoomPlace,
 }
 
-impl<'a, R, C> Heard<'a, R, C> {
+impl<'a, R, C> PatientInput<'a, R, C> {
     /// The reader; the place notes when something comes.
-    pub(crate) fn new(reader: R, clock: &'a C, place: &'a Place) -> Self
+    pub(crate) fn new(reader: R, clock: &'a C, place: &'a RoomPlace) -> Self
         ensures { result.reader ≡ reader }
     {
-        Heard {
+        PatientInput {
             reader,
             clock,
             place,
@@ -240,7 +240,7 @@ impl<'a, R, C> Heard<'a, R, C> {
     }
 }
 
-impl<R: Read, C: Clock> Read for Heard<'_, R, C> {
+impl<R: Read, C: Clock> Read for PatientInput<'_, R, C> {
     ghost remaining = { λ heard. R.remaining heard.reader };
 
     fn read(&mut self, buf: &mut [u8]) -> io::Result<usize> {
@@ -255,19 +255,19 @@ impl<R: Read, C: Clock> Read for Heard<'_, R, C> {
 /// What is sent to a connection that has a place. Its writes end by `WouldBlock` where nothing moves, and are tried again as long as there is
 /// patience.
 #[derive(Drop)]
-pub struct Told<'a, W, P, C> {
+pub struct PatientOutput<'a, W, P, C> {
     writer: W,
     patience: P,
     clock: &'a C,
-    place: &'a Place,
+    place: &'a RoomPlace,
 }
 
-impl<'a, W, P, C> Told<'a, W, P, C> {
+impl<'a, W, P, C> PatientOutput<'a, W, P, C> {
     /// The writer; the place notes how it gets on.
-    pub(crate) fn new(writer: W, patience: P, clock: &'a C, place: &'a Place) -> Self
+    pub(crate) fn new(writer: W, patience: P, clock: &'a C, place: &'a RoomPlace) -> Self
         ensures { result.writer ≡ writer }
     {
-        Told {
+        PatientOutput {
             writer,
             patience,
             clock,
@@ -276,7 +276,7 @@ impl<'a, W, P, C> Told<'a, W, P, C> {
     }
 }
 
-impl<W, P, C: Clock> Told<'_, W, P, C> {
+impl<W, P, C: Clock> PatientOutput<'_, W, P, C> {
     // So many bytes were sent of so many.
     fn note(&self, count: usize, of: usize) {
         let now = milliseconds(self.clock);
@@ -288,7 +288,7 @@ impl<W, P, C: Clock> Told<'_, W, P, C> {
     }
 }
 
-impl<W: Write, P: Patience, C: Clock> Write for Told<'_, W, P, C> {
+impl<W: Write, P: Patience, C: Clock> Write for PatientOutput<'_, W, P, C> {
     ghost contents = { λ told. W.contents told.writer };
 
     fn write(&mut self, buf: &[u8]) -> io::Result<usize> {

@@ -22,15 +22,15 @@ pub fn is_as_written(len: u64, before: Bounds, after: Bounds) -> bool
 
 /// The bounds of a file's length as one thread writes it and another looks.
 #[derive(Drop)]
-pub struct Extent {
+pub struct FileExtent {
     least: AtomicU64,
     most: AtomicU64,
 }
 
-impl Extent {
+impl FileExtent {
     /// Of a file of which nothing is known yet.
     pub fn unknown() -> Self {
-        Extent {
+        FileExtent {
             least: AtomicU64::new(0),
             most: AtomicU64::new(u64::MAX),
         }
@@ -72,12 +72,12 @@ impl Extent {
 #[derive(Drop)]
 pub struct Watched<'a, D> {
     device: D,
-    extent: &'a Extent,
+    extent: &'a FileExtent,
 }
 
 impl<'a, D> Watched<'a, D> {
     /// The device, whose calls are noted there.
-    pub fn new(device: D, extent: &'a Extent) -> Self
+    pub fn new(device: D, extent: &'a FileExtent) -> Self
         ensures { result.device ≡ device }
     {
         Watched { device, extent }

@@ -20,7 +20,7 @@ use Rattle.bayou_script.specs.AuditFile.{Evidence, IsAuditFile}
 use Rattle.bayou_script.specs.Script.{lines_of}
 use Rattle.bayou_tasks.specs.Audit.{IsAudit}
 use Rattle.bayou_tasks.specs.Explanations.{ExplainsAs, IsDrawnBeside, IsJsonAudit, IsShownOf, IsSurveyedOf, IsToldAsJson, IsToldBeside, IsToldOf, SaysAudit, Shows}
-use Rattle.bayou_tasks.specs.declared.explained.Outcome.{Outcome}
+use Rattle.bayou_tasks.specs.declared.explained.AuditOutcome.{AuditOutcome}
 use Rattle.bayou_tasks.specs.declared.explained.Beside.{Beside}
 use Rattle.bayou_streams.specs.Account.{Account, TakesBytes}
 use Rattle.bayou_streams.specs.Laws.Taken.{TakesBytes-trans}
@@ -39,7 +39,7 @@ told_more (Ok list) text more (breaches, rest, each, is) = (breaches, rest ++ mo
 told_more (Err bad) text more told = tt
 
 -- an audit file's verdict and survey were printed, and then what is told beside them
-pub explained : (beside : Beside) (made : Outcome) (known : Option (List ℕ)) (text : List ℕ) (evidence : Evidence) (ended : Ended) (told : List ℕ) (a b c : Account)
+pub explained : (beside : Beside) (made : AuditOutcome) (known : Option (List ℕ)) (text : List ℕ) (evidence : Evidence) (ended : Ended) (told : List ℕ) (a b c : Account)
     → IfSome known (λ all. text ≡ all) → IsAuditFile (lines_of text) evidence → (audit : List ℕ) × SaysAudit beside.is_json evidence ended audit × TakesBytes a b audit
     → (survey : Result (Vec Surveyed) BadEvidence) × IsSurveyedOf evidence survey × (shown : Result (Vec Breach) BadEvidence) × IsShownOf beside.is_all evidence shown
     × IsToldBeside beside.is_explained beside.is_json shown told × IsDrawnBeside beside.is_drawn survey made.picture

@@ -22,7 +22,7 @@ use Rattle.bayou_script.specs.AuditFile.{Evidence, IsAuditFile}
 use Rattle.bayou_script.specs.Script.{lines_of}
 use Rattle.bayou_tasks.specs.Audit.{IsAudit, IsVerdictOf}
 use Rattle.bayou_tasks.specs.Checks.{input_kept}
-use Rattle.bayou_tasks.specs.declared.explained.Outcome.{Outcome}
+use Rattle.bayou_tasks.specs.declared.explained.AuditOutcome.{AuditOutcome}
 use Rattle.bayou_tasks.specs.declared.explained.Beside.{Beside}
 use Rattle.bayou_tasks.specs.declared.explained.Explaining.{Explaining}
 use Rattle.bayou_streams.specs.Account.{Account, TakesBytes}
@@ -96,7 +96,7 @@ IsDrawnBeside false survey picture = picture ≡ None
 
 -- The text is an audit file: verdict and survey are printed as an audit prints them, or as JSON, and then what explains them, where that is asked for. The status is the
 -- audit's, and the picture is of its survey.
-pub record ExplainsAs (beside : Beside) (text : List ℕ) (made : Outcome) (old new : Account) : Type 0 where
+pub record ExplainsAs (beside : Beside) (text : List ℕ) (made : AuditOutcome) (old new : Account) : Type 0 where
   pub evidence : Evidence
   pub is : IsAuditFile (lines_of text) evidence
   pub ended : Ended

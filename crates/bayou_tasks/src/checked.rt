@@ -6,7 +6,9 @@ ghost use Rattle.bayou_tasks.specs.Checks.{ChecksAs, IsCheckupOf};
 
 use crate::telling::tell;
 use bayou_base::limits::READ_BYTES;
-use bayou_check::{Report, Told, check_text, summary_json, summary_text, told_json, told_text};
+use bayou_check::{
+    FaultyLine, Report, check_text, summary_json, summary_text, told_json, told_text,
+};
 use bayou_command::{Checking, Source};
 use bayou_print::{RunFault, write_text};
 use bayou_streams::{CountedChannel, Output, Turn};
@@ -74,7 +76,7 @@ fn print_told<W: Write>(
     alloc: Global,
     file: &str,
     is_json: bool,
-    told: &Told,
+    told: &FaultyLine,
     output: &mut Output<W>,
 ) -> Result<(), RunFault> {
     let text = if is_json {

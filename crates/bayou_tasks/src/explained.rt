@@ -59,7 +59,7 @@ pub struct Beside {
 
 /// An audit that was made: its exit status, and its picture, where one was drawn.
 #[derive(Drop)]
-pub struct Outcome {
+pub struct AuditOutcome {
     pub status: u8,
     pub picture: Option<Vec<u8>>,
 }
@@ -404,7 +404,7 @@ pub fn explain_input<R: Read, W: Write>(
     beside: Beside,
     input: &mut CountedChannel<R, ()>,
     output: &mut Output<W>,
-) -> Result<Outcome, RunFault>
+) -> Result<AuditOutcome, RunFault>
     ensures { IfOk result (λ audited. IfSome (R.remaining input.old.reader) (λ text. ExplainsAs beside text audited (account W.contents output.old) (account W.contents output.new))) }
 {
     let text = read_whole(alloc, input)?;
@@ -412,7 +412,7 @@ pub fn explain_input<R: Read, W: Write>(
     let ended = print_audit(alloc, beside.is_json, &file, output)?;
     let (told, picture) = explain_file(alloc, name, beside, text.as_slice(), &file)?;
     write_text(output, told.as_bytes())?;
-    Ok(Outcome {
+    Ok(AuditOutcome {
         status: ended.status(),
         picture,
     })
@@ -436,7 +436,7 @@ fn put_picture<T: fs::Files<File = File>, E: Write>(
     rt: &T,
     alloc: Global,
     path: &str,
-    audited: &Outcome,
+    audited: &AuditOutcome,
     errors: &mut Output<E>,
 ) -> Result<u8, AllocError> {
     let Some(picture) = &audited.picture else {
@@ -462,7 +462,7 @@ fn explain_named<T: fs::Files<File = File>, W: Write, E: Write>(
     beside: Beside,
     output: &mut Output<W>,
     errors: &mut Output<E>,
-) -> Result<Outcome, RunFault> {
+) -> Result<AuditOutcome, RunFault> {
     match File::open(rt, name) {
         Ok(reader) => {
             let mut input = CountedChannel::new(reader, ());
@@ -471,7 +471,7 @@ fn explain_named<T: fs::Files<File = File>, W: Write, E: Write>(
         Err(error) => {
             let line = format!(in alloc; "bayou: input\n  {name}: {error}\n")?;
             let _ = write_text(errors, line.as_bytes());
-            Ok(Outcome {
+            Ok(AuditOutcome {
                 status: FAILED,
                 picture: None,
             })

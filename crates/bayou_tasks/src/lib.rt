@@ -25,6 +25,6 @@ pub mod telling;
 
 pub use audit::run_audit;
 pub use checked::{Checkup, check_input, run_checked};
-pub use explained::{Beside, Explaining, Outcome, explain_input, run_explained};
+pub use explained::{AuditOutcome, Beside, Explaining, explain_input, run_explained};
 pub use form::AnswerForm;
 pub use run::run_script;

@@ -3,11 +3,11 @@ use Rattle.std.specs.Prelude.{ℕ, ◌⊎◌, List, [], ◌∷◌, ◌++◌, Opt
 use Rattle.http_server.specs.Response.{IsResponse}
 use Rattle.http_server.specs.declared.response.Response.{Response}
 use Rattle.bayou_web_page.specs.declared.page.TheConstants.{PAGE, POLICY}
-use Rattle.bayou_web.specs.declared.wish.Refusal.{Refusal}
+use Rattle.bayou_web.specs.declared.wish.RequestRefusal.{RequestRefusal}
 use Rattle.bayou_web.specs.declared.wish.TheConstants.{ELSEWHERE, MISSING, ONLY_GET, ONLY_POST, UNKNOWN, FOREIGN, MALFORMED}
-use Rattle.bayou_web.specs.declared.wish.Refusal.TheVariants.{Elsewhere, Missing, OnlyGet, OnlyPost, Unknown, Foreign, Malformed}
+use Rattle.bayou_web.specs.declared.wish.RequestRefusal.TheVariants.{Elsewhere, Missing, OnlyGet, OnlyPost, Unknown, Foreign, Malformed}
 
-abbrev pub status_for : Refusal → ℕ
+abbrev pub status_for : RequestRefusal → ℕ
 status_for Elsewhere = 421
 status_for Missing = 404
 status_for OnlyGet = 405
@@ -16,7 +16,7 @@ status_for Unknown = 401
 status_for Foreign = 403
 status_for Malformed = 400
 
-abbrev pub text_for : Refusal → List ℕ
+abbrev pub text_for : RequestRefusal → List ℕ
 text_for Elsewhere = ELSEWHERE.now
 text_for Missing = MISSING.now
 text_for OnlyGet = ONLY_GET.now
@@ -34,7 +34,7 @@ abbrev pub page_fields : List (List ℕ × List ℕ)
 page_fields = fields_for (codes "text/html; charset=utf-8") ++ (codes "referrer-policy", codes "no-referrer") ∷ (codes "content-security-policy", POLICY.now) ∷ []
 
 -- by which method it may be asked, where that was why
-abbrev pub allowed_for : Refusal → List (List ℕ × List ℕ)
+abbrev pub allowed_for : RequestRefusal → List (List ℕ × List ℕ)
 allowed_for Elsewhere = []
 allowed_for Missing = []
 allowed_for OnlyGet = (codes "allow", codes "GET") ∷ []
@@ -52,7 +52,7 @@ abbrev pub IsText : (text : List ℕ) → Response → Type 0
 IsText = IsResponse 200 (fields_for (codes "application/json"))
 
 -- a status that says why, and a text that is the same whoever asks
-abbrev pub IsRefusal : Refusal → Response → Type 0
+abbrev pub IsRefusal : RequestRefusal → Response → Type 0
 IsRefusal refusal = IsResponse (status_for refusal) (fields_for (codes "text/plain; charset=utf-8") ++ allowed_for refusal) (text_for refusal)
 
 -- memory ran out after what was done

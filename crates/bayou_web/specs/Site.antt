@@ -6,8 +6,8 @@ use Rattle.http.specs.Request.{body_of, head_of}
 use Rattle.http_uri.specs.Uri.{uri_query}
 use Rattle.http_server.specs.declared.response.Response.{Response}
 use Rattle.bayou_web.specs.declared.site.Site.{Site}
-use Rattle.bayou_web.specs.declared.wish.Refusal.{Refusal}
-use Rattle.bayou_web.specs.declared.wish.Refusal.TheVariants.{Malformed}
+use Rattle.bayou_web.specs.declared.wish.RequestRefusal.{RequestRefusal}
+use Rattle.bayou_web.specs.declared.wish.RequestRefusal.TheVariants.{Malformed}
 use Rattle.bayou_web.specs.Asked.{AsksNothing, AsksOf}
 use Rattle.bayou_web.specs.Body.{SaysLine, SaysNone}
 use Rattle.bayou_web.specs.Door.{AsksPage, MayAskNothing, MayDo, MayLook, Refuses}
@@ -32,6 +32,6 @@ module _ {D : Type 0} where
     pub kept : MayAskNothing old.door (head_of request) → new.desk ≡ old.desk
     pub page : AsksPage old.door (head_of request) → IsPage response
     pub refused : MayAskNothing old.door (head_of request) → ¬ (AsksPage old.door (head_of request))
-        → (refusal : Refusal) × Refuses old.door (head_of request) refusal × IsRefusal refusal response
+        → (refusal : RequestRefusal) × Refuses old.door (head_of request) refusal × IsRefusal refusal response
     pub shown : MayLook old.door (head_of request) → Shows shows old.desk (head_of request) response new.desk
     pub done : MayDo old.door (head_of request) → Acts does old.desk (body_of request) response new.desk

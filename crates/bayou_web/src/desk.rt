@@ -4,7 +4,7 @@ ghost use Rattle.std.specs.Prelude.{ℕ, List, MatchResult, Option, None, Some};
 use std::alloc::{AllocError, Global};
 
 /// What the pages show and change. Either call may end for want of memory, and may have done its work then.
-pub trait Desk {
+pub trait PageDesk {
     /// Before, what was asked for, the text that shows it, or none for want of memory, and after.
     ghost shows: { Self → List ℕ → Option (List ℕ) → Self → Type 0 };
 

@@ -3,16 +3,16 @@ ghost use Rattle.std.specs.Prelude.{◌≡◌, ◌↔◌, IfOk, IsTrue};
 ghost use Rattle.http.specs.Request.{head_of};
 ghost use Rattle.http_header.specs.Token.{lowercase};
 ghost use Rattle.bayou_web.specs.Head.{HasField};
-ghost use Rattle.bayou_web.specs.declared.wish.Wish.TheVariants.{Page, State, Do};
+ghost use Rattle.bayou_web.specs.declared.wish.PageWish.TheVariants.{Page, State, Do};
 
-use crate::wish::{Refusal, Wish};
+use crate::wish::{PageWish, RequestRefusal};
 use bytes::Bytes;
 use http::{HeaderMap, Request};
 use std::alloc::{AllocError, Global};
 
 /// What may come in, by the address that is listened at and a word that one person alone knows.
 #[derive(Debug, Drop)]
-pub struct Door {
+pub struct PageDoor {
     /// `127.0.0.1:8080`, as `Host` has to have it.
     host: String,
     /// `http://127.0.0.1:8080`, as `Origin` has to have it.
@@ -31,14 +31,14 @@ fn has_field(headers: &HeaderMap, name: &str, value: &str) -> bool
     }
 }
 
-impl Door {
+impl PageDoor {
     ghost use Rattle.bayou_web.specs.Door.{AsksPage, IsDoorOf, IsHere, IsOwn, IsWhy, Knows, MayDo, MayLook};
 
     /// The door of who listens at this address and has told this token.
     pub fn new(alloc: Global, address: &str, token: &str) -> Result<Self, AllocError>
         ensures { IfOk result (IsDoorOf address.now token.now) }
     {
-        Ok(Door {
+        Ok(PageDoor {
             host: address.to_string(alloc)?,
             origin: format!(in alloc; "http://{address}")?,
             bearer: format!(in alloc; "Bearer {token}")?,
@@ -66,43 +66,43 @@ impl Door {
     }
 
     /// What the request may want.
-    pub fn wish_of(&self, request: &Request<Bytes>) -> Wish
+    pub fn wish_of(&self, request: &Request<Bytes>) -> PageWish
         ensures page { result ≡ Page ↔ AsksPage self.now (head_of request.now) }
         ensures state { result ≡ State ↔ MayLook self.now (head_of request.now) }
         ensures does { result ≡ Do ↔ MayDo self.now (head_of request.now) }
         ensures why { IsWhy self.now (head_of request.now) result }
     {
         if !self.is_here(request) {
-            return Wish::Refused(Refusal::Elsewhere);
+            return PageWish::Refused(RequestRefusal::Elsewhere);
         }
         let (path, method) = (request.uri().path(), request.method().as_str());
         if path == "/" {
             if method != "GET" {
-                return Wish::Refused(Refusal::OnlyGet);
+                return PageWish::Refused(RequestRefusal::OnlyGet);
             }
-            return Wish::Page;
+            return PageWish::Page;
         }
         if path == "/state" {
             if method != "GET" {
-                return Wish::Refused(Refusal::OnlyGet);
+                return PageWish::Refused(RequestRefusal::OnlyGet);
             }
             if !self.knows(request) {
-                return Wish::Refused(Refusal::Unknown);
+                return PageWish::Refused(RequestRefusal::Unknown);
             }
-            return Wish::State;
+            return PageWish::State;
         }
         if path == "/do" {
             if method != "POST" {
-                return Wish::Refused(Refusal::OnlyPost);
+                return PageWish::Refused(RequestRefusal::OnlyPost);
             }
             if !self.knows(request) {
-                return Wish::Refused(Refusal::Unknown);
+                return PageWish::Refused(RequestRefusal::Unknown);
             }
             if !self.is_own(request) {
-                return Wish::Refused(Refusal::Foreign);
+                return PageWish::Refused(RequestRefusal::Foreign);
             }
-            return Wish::Do;
+            return PageWish::Do;
         }
-        Wish::Refused(Refusal::Missing)
+        PageWish::Refused(RequestRefusal::Missing)
     }
 }

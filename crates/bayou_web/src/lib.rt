@@ -1,6 +1,6 @@
 //! What a request to the page of a store is answered by: the page, what a desk shows, or what became of a line at it.
 //!
-//! A [`Site`] is the service: a [`Door`], which says what a request may want, and a [`Desk`], which shows and does. A request that may ask nothing
+//! A [`Site`] is the service: a [`PageDoor`], which says what a request may want, and a [`PageDesk`], which shows and does. A request that may ask nothing
 //! leaves the desk as it was (`Answers` in `specs/`). The crate knows nothing of sockets, stores and sessions.
 //!
 //! Callers owe nothing. It isn't promised that memory suffices: where it doesn't before anything was done, the connection ends; after that, 500 is answered.
@@ -15,7 +15,7 @@ pub mod site;
 pub mod wish;
 
 pub use body::{BodyFault, line_of};
-pub use desk::Desk;
-pub use door::Door;
+pub use desk::PageDesk;
+pub use door::PageDoor;
 pub use site::Site;
-pub use wish::{Refusal, Wish};
+pub use wish::{PageWish, RequestRefusal};

@@ -3,7 +3,7 @@ ghost use Rattle.std.specs.Prelude.{◌≡◌, ◌++◌, [], OnOk, codes};
 ghost use Rattle.http_server.specs.Response.{IsBlank, IsResponse, fields_of};
 ghost use Rattle.bayou_web.specs.Reply.{IsFailure, IsPage, IsRefusal, IsText, fields_for};
 
-use crate::wish::Refusal;
+use crate::wish::RequestRefusal;
 use bayou_web_page::{PAGE, POLICY};
 use bytes::Bytes;
 use http::header::{
@@ -57,7 +57,7 @@ pub(crate) fn put_text(response: &mut Response, text: Vec<u8>) -> Result<(), All
 }
 
 /// Says why nothing is done, and nothing else.
-pub(crate) fn refuse(response: &mut Response, refusal: Refusal) -> Result<(), AllocError>
+pub(crate) fn refuse(response: &mut Response, refusal: RequestRefusal) -> Result<(), AllocError>
     requires { IsBlank response.old }
     ensures { OnOk result (IsRefusal refusal response.new) }
 {
@@ -66,8 +66,8 @@ pub(crate) fn refuse(response: &mut Response, refusal: Refusal) -> Result<(), Al
         HeaderValue::from_static("text/plain; charset=utf-8"),
     )?;
     match refusal {
-        Refusal::OnlyGet => response.add_header(ALLOW, HeaderValue::from_static("GET"))?,
-        Refusal::OnlyPost => response.add_header(ALLOW, HeaderValue::from_static("POST"))?,
+        RequestRefusal::OnlyGet => response.add_header(ALLOW, HeaderValue::from_static("GET"))?,
+        RequestRefusal::OnlyPost => response.add_header(ALLOW, HeaderValue::from_static("POST"))?,
         _ => {}
     }
     response.status = refusal.status();

@@ -5,10 +5,10 @@ ghost use Rattle.bayou_web.specs.Reply.{Tells, fields_for};
 
 use crate::asked::prefix_of;
 use crate::body::{BodyFault, line_of};
-use crate::desk::Desk;
-use crate::door::Door;
+use crate::desk::PageDesk;
+use crate::door::PageDoor;
 use crate::reply::{begin_text, fail, put_page, put_text, refuse};
-use crate::wish::{Refusal, Wish};
+use crate::wish::{PageWish, RequestRefusal};
 use bytes::Bytes;
 use http::Request;
 use http_server::{Response, Service};
@@ -18,7 +18,7 @@ use std::alloc::{AllocError, Global};
 #[derive(Drop)]
 pub struct Site<D: Drop> {
     alloc: Global,
-    door: Door,
+    door: PageDoor,
     desk: D,
 }
 
@@ -36,14 +36,14 @@ fn tell(response: &mut Response, told: Result<Vec<u8>, AllocError>)
     }
 }
 
-impl<D: Desk + Drop> Site<D> {
+impl<D: PageDesk + Drop> Site<D> {
     ghost use Rattle.std.specs.Prelude.{OnErr, OnOk};
     ghost use Rattle.http.specs.Request.{body_of, head_of};
     ghost use Rattle.http_server.specs.Response.{IsBlank};
     ghost use Rattle.bayou_web.specs.Site.{Acts, Shows};
 
     /// What this desk shows and does to whoever may come in.
-    pub fn new(alloc: Global, door: Door, desk: D) -> Self
+    pub fn new(alloc: Global, door: PageDoor, desk: D) -> Self
         ensures { (result.door ≡ door) × (result.desk ≡ desk) }
     {
         Site { alloc, door, desk }
@@ -59,7 +59,7 @@ impl<D: Desk + Drop> Site<D> {
         let prefix = match prefix_of(self.alloc, request.uri().query()) {
             Ok(prefix) => prefix,
             Err(BodyFault::OutOfMemory) => return Err(AllocError),
-            Err(BodyFault::Malformed) => return refuse(response, Refusal::Malformed),
+            Err(BodyFault::Malformed) => return refuse(response, RequestRefusal::Malformed),
         };
         begin_text(response)?;
         let told = self.desk.show(self.alloc, prefix.as_str());
@@ -77,7 +77,7 @@ impl<D: Desk + Drop> Site<D> {
         let line = match line_of(self.alloc, request.body().as_slice()) {
             Ok(line) => line,
             Err(BodyFault::OutOfMemory) => return Err(AllocError),
-            Err(BodyFault::Malformed) => return refuse(response, Refusal::Malformed),
+            Err(BodyFault::Malformed) => return refuse(response, RequestRefusal::Malformed),
         };
         begin_text(response)?;
         let told = self.desk.act(self.alloc, line.as_str());
@@ -86,7 +86,7 @@ impl<D: Desk + Drop> Site<D> {
     }
 }
 
-impl<D: Desk + Drop> Service for Site<D> {
+impl<D: PageDesk + Drop> Service for Site<D> {
     ghost use Rattle.bayou_web.specs.Site.{Answers};
 
     ghost answers = { Answers D.shows D.does };
@@ -97,10 +97,10 @@ impl<D: Desk + Drop> Service for Site<D> {
         response: &mut Response,
     ) -> Result<(), AllocError> {
         match self.door.wish_of(request) {
-            Wish::Page => put_page(response),
-            Wish::State => self.show(request, response),
-            Wish::Do => self.act(request, response),
-            Wish::Refused(refusal) => refuse(response, refusal),
+            PageWish::Page => put_page(response),
+            PageWish::State => self.show(request, response),
+            PageWish::Do => self.act(request, response),
+            PageWish::Refused(refusal) => refuse(response, refusal),
         }
     }
 }

@@ -23,7 +23,7 @@ pub const MALFORMED: &str = "This says nothing that can be shown or done.\n";
 
 /// Why a request may want nothing.
 #[derive(Clone, Copy, Debug, PartialEq, Eq)]
-pub enum Refusal {
+pub enum RequestRefusal {
     /// It was sent to another name.
     Elsewhere,
     /// Nothing is there.
@@ -42,29 +42,29 @@ pub enum Refusal {
 
 /// What a request may want.
 #[derive(Clone, Copy, Debug, PartialEq, Eq)]
-pub enum Wish {
+pub enum PageWish {
     Page,
     /// What is to be seen.
     State,
     /// That a line is done.
     Do,
     /// Nothing.
-    Refused(Refusal),
+    Refused(RequestRefusal),
 }
 
-impl Refusal {
+impl RequestRefusal {
     /// The status that says so.
     pub fn status(self) -> StatusCode
         ensures value { result ≡ status_for self }
         ensures wrong { (400 ≤ result) × (result < 500) }
     {
         match self {
-            Refusal::Elsewhere => StatusCode::MISDIRECTED_REQUEST,
-            Refusal::Missing => StatusCode::NOT_FOUND,
-            Refusal::OnlyGet | Refusal::OnlyPost => StatusCode::METHOD_NOT_ALLOWED,
-            Refusal::Unknown => StatusCode::UNAUTHORIZED,
-            Refusal::Foreign => StatusCode::FORBIDDEN,
-            Refusal::Malformed => StatusCode::BAD_REQUEST,
+            RequestRefusal::Elsewhere => StatusCode::MISDIRECTED_REQUEST,
+            RequestRefusal::Missing => StatusCode::NOT_FOUND,
+            RequestRefusal::OnlyGet | RequestRefusal::OnlyPost => StatusCode::METHOD_NOT_ALLOWED,
+            RequestRefusal::Unknown => StatusCode::UNAUTHORIZED,
+            RequestRefusal::Foreign => StatusCode::FORBIDDEN,
+            RequestRefusal::Malformed => StatusCode::BAD_REQUEST,
         }
     }
 
@@ -73,13 +73,13 @@ impl Refusal {
         ensures { result.now ≡ text_for self }
     {
         match self {
-            Refusal::Elsewhere => ELSEWHERE,
-            Refusal::Missing => MISSING,
-            Refusal::OnlyGet => ONLY_GET,
-            Refusal::OnlyPost => ONLY_POST,
-            Refusal::Unknown => UNKNOWN,
-            Refusal::Foreign => FOREIGN,
-            Refusal::Malformed => MALFORMED,
+            RequestRefusal::Elsewhere => ELSEWHERE,
+            RequestRefusal::Missing => MISSING,
+            RequestRefusal::OnlyGet => ONLY_GET,
+            RequestRefusal::OnlyPost => ONLY_POST,
+            RequestRefusal::Unknown => UNKNOWN,
+            RequestRefusal::Foreign => FOREIGN,
+            RequestRefusal::Malformed => MALFORMED,
         }
     }
 }

@@ -1,11 +1,11 @@
 //! What is seen, as servers tell it.
 
-use bayou_connect::{ConnectFault, Ended, OpenDesk, SeenRow, SeenRows};
+use bayou_connect::{ConnectFault, LinesEnded, OpenDesk, SeenRow, SeenRows};
 use bayou_net::Sockets;
 use bayou_session::Session;
 use bayou_streams::Output;
-use bayou_web_serve::Hall;
-use bayou_web_state::{Done, OwnTold, Row, Seen, SeenSession, done_text};
+use bayou_web_serve::SiteHall;
+use bayou_web_state::{LineDone, OwnTold, Row, SeenSession, StoreSeen, done_text};
 use std::alloc::{AllocError, Global};
 use std::fs::{File, Files};
 use std::str;
@@ -23,15 +23,15 @@ const REFUSED: u8 = 2;
 pub(crate) struct Looking<'a, T> {
     pub(crate) rt: &'a T,
     pub(crate) alloc: Global,
-    pub(crate) hall: &'a Hall,
+    pub(crate) hall: &'a SiteHall,
     pub(crate) desk: OpenDesk,
 }
 
-fn status_of(ended: Ended) -> u8 {
+fn status_of(ended: LinesEnded) -> u8 {
     match ended {
-        Ended::Served => 0,
-        Ended::Unserved => UNSERVED,
-        Ended::Refused => REFUSED,
+        LinesEnded::Served => 0,
+        LinesEnded::Unserved => UNSERVED,
+        LinesEnded::Refused => REFUSED,
     }
 }
 
@@ -63,7 +63,7 @@ fn shown_session(session: &Session) -> SeenSession {
 }
 
 // Each line of a text is a notice.
-fn note_each(alloc: Global, seen: &mut Seen, text: &[u8]) -> Result<(), AllocError> {
+fn note_each(alloc: Global, seen: &mut StoreSeen, text: &[u8]) -> Result<(), AllocError> {
     let text = str::from_utf8(text).unwrap_or("");
     for line in text.lines() {
         seen.note(alloc, line)?;
@@ -73,7 +73,7 @@ fn note_each(alloc: Global, seen: &mut Seen, text: &[u8]) -> Result<(), AllocErr
 
 impl<T: Files<File = File> + Sockets + Wait + Clock> Looking<'_, T> {
     // The session, as it is now, and the own Writes; the last of them was made by the line, if one is there.
-    fn show_own(&self, seen: &mut Seen, line: Option<&str>) -> Result<(), AllocError> {
+    fn show_own(&self, seen: &mut StoreSeen, line: Option<&str>) -> Result<(), AllocError> {
         let mut own = Vec::with_capacity(self.alloc, self.desk.own().len())?;
         for write in self.desk.own() {
             own.push(OwnTold {
@@ -87,7 +87,7 @@ impl<T: Files<File = File> + Sockets + Wait + Clock> Looking<'_, T> {
     }
 
     // The servers, as they were asked last.
-    fn show_servers(&self, seen: &mut Seen) -> Result<(), AllocError> {
+    fn show_servers(&self, seen: &mut StoreSeen) -> Result<(), AllocError> {
         let views = self.desk.views();
         let mut at: usize = 0;
         for server in self.desk.servers()? {
@@ -102,7 +102,7 @@ impl<T: Files<File = File> + Sockets + Wait + Clock> Looking<'_, T> {
     }
 
     // The rows that came, if any did.
-    fn show_rows(&self, seen: &mut Seen, rows: Option<SeenRows>) -> Result<(), AllocError> {
+    fn show_rows(&self, seen: &mut StoreSeen, rows: Option<SeenRows>) -> Result<(), AllocError> {
         let Some(told) = rows else {
             seen.rows_untold();
             return Ok(());
@@ -147,7 +147,7 @@ impl<T: Files<File = File> + Sockets + Wait + Clock> Looking<'_, T> {
         drop(output);
         self.show_done(line)?;
         let status = status_of(ended);
-        let done = Done {
+        let done = LineDone {
             printed: &printed,
             told: &told,
             status,

@@ -1,14 +1,14 @@
 //! A page that is served, from its start to its end.
 use crate::fault::WebFault;
 use crate::looking::Looking;
-use bayou_connect::{ConnectFault, Ended, Names, OpenDesk, Plan};
+use bayou_connect::{ConnectFault, LinesEnded, Names, OpenDesk, SessionPlan};
 use bayou_greeting::StoreKey;
 use bayou_net::{Door, Sockets, attend, shut};
 use bayou_print::write_text;
 use bayou_streams::Output;
-use bayou_web::{Door as WebDoor, Site};
-use bayou_web_serve::{AtCounter, Hall, Page, Reception, milliseconds};
-use bayou_web_state::{Done, Seen, done_text};
+use bayou_web::{PageDoor as WebDoor, Site};
+use bayou_web_serve::{AtCounter, SiteHall, SitePage, SiteReception, milliseconds};
+use bayou_web_state::{LineDone, StoreSeen, done_text};
 use std::alloc::{AllocError, Global};
 use std::fs::{File, Files};
 use std::hash::RandomState;
@@ -51,7 +51,7 @@ fn new_token<T: RandomSource>(rt: &T, alloc: Global) -> Result<String, WebFault>
 fn sites_at<'a, T: Wait + Clock>(
     rt: &'a T,
     alloc: Global,
-    hall: &'a Hall,
+    hall: &'a SiteHall,
     address: &str,
     token: &str,
 ) -> Result<Vec<Site<AtCounter<'a, T>>>, AllocError> {
@@ -115,11 +115,11 @@ fn attend_desk<T: Files<File = File> + Sockets + Wait + Clock>(
 }
 
 // Tells whoever handed in the last line that the desk is at fault, as far as there is memory for that.
-fn answer_fault<T: Wait>(rt: &T, alloc: Global, hall: &Hall, fault: &ConnectFault) {
+fn answer_fault<T: Wait>(rt: &T, alloc: Global, hall: &SiteHall, fault: &ConnectFault) {
     let Ok(told) = format!(in alloc; "bayou: {fault}\n") else {
         return;
     };
-    let done = Done {
+    let done = LineDone {
         printed: &[],
         told: told.as_bytes(),
         status: FAILED,
@@ -134,7 +134,7 @@ fn serve_at<'a, T>(
     rt: &'a T,
     alloc: Global,
     listener: &'a TcpListener,
-    hall: &'a Hall,
+    hall: &'a SiteHall,
     sites: Vec<Site<AtCounter<'a, T>>>,
     desk: OpenDesk,
 ) -> WebFault
@@ -144,7 +144,7 @@ where
     let (Ok(copy), Ok(keys)) = (listener.try_clone(), RandomState::new(rt)) else {
         return WebFault::Random;
     };
-    let reception = Reception::new(rt, keys);
+    let reception = SiteReception::new(rt, keys);
     let door = Door {
         host: &reception,
         listener,
@@ -180,19 +180,19 @@ where
 pub fn serve_web<W, E, T>(
     rt: &T,
     alloc: Global,
-    plan: &Plan,
+    plan: &SessionPlan,
     key: Option<StoreKey>,
     names: Names<'_>,
-    page: Page,
+    page: SitePage,
     output: &mut Output<W>,
     errors: &mut E,
-) -> Result<Ended, WebFault>
+) -> Result<LinesEnded, WebFault>
 where
     W: Write,
     E: Write,
     T: Files<File = File> + Threads + Wait + Clock + RandomSource + Sockets + Send + Sync,
 {
-    let Page { listen, name } = page;
+    let SitePage { listen, name } = page;
     let Ok(listener) = TcpListener::bind(rt, listen) else {
         return Err(WebFault::NotListening);
     };
@@ -200,11 +200,11 @@ where
         return Err(WebFault::NotListening);
     };
     let Some(desk) = OpenDesk::open(rt, alloc, plan, key, names, errors)? else {
-        return Ok(Ended::Refused);
+        return Ok(LinesEnded::Refused);
     };
     let address = listen.to_string(alloc)?;
     let token = new_token(rt, alloc)?;
-    let hall = Hall::new(Seen::new(alloc, plan.servers, name));
+    let hall = SiteHall::new(StoreSeen::new(alloc, plan.servers, name));
     let sites = sites_at(rt, alloc, &hall, address.as_str(), token.as_str())?;
     let line = format!(in alloc; "web at http://{address}/#{token}\n")?;
     if write_text(output, line.as_bytes()).is_err() {

@@ -7,12 +7,12 @@ ghost use Rattle.bayou_web_state.specs.Done.{IsDone};
 ghost use Rattle.bayou_web_serve.specs.Shows.{IsShown};
 
 use crate::counter::{Counter, NotDone};
-use crate::serving::{Habits, serve_stream};
+use crate::serving::{SiteHabits, serve_stream};
 use crate::timed::milliseconds;
 use bayou_base::limits::MAX_LINE_BYTES;
 use bayou_net::{Attendant, Host};
-use bayou_web::{Desk, Site};
-use bayou_web_state::{Done, Seen, done_text};
+use bayou_web::{PageDesk, Site};
+use bayou_web_state::{LineDone, StoreSeen, done_text};
 use std::alloc::{AllocError, Global};
 use std::hash::RandomState;
 use std::net::TcpStream;
@@ -41,13 +41,13 @@ const FAILED: u8 = 3;
 
 /// What is seen, and the text that tells all of it, once it was spelled, as long as nothing changed.
 #[derive(Drop)]
-pub struct Shown {
-    seen: Seen,
+pub struct ShownState {
+    seen: StoreSeen,
     text: Option<Vec<u8>>,
     ghost shown: { ForSome text (λ text. IsShown [] seen text.items) },
 }
 
-impl Shown {
+impl ShownState {
     /// Whether the rows were reported as servers were asked last.
     pub fn is_current(&self) -> bool
         ensures { result ≡ self.now.seen.is_current }
@@ -56,7 +56,7 @@ impl Shown {
     }
 
     /// What is seen, to be changed.
-    pub fn changed(&mut self) -> &mut Seen
+    pub fn changed(&mut self) -> &mut StoreSeen
         ensures { result.now ≡ self.old.seen }
     {
         self.text = None;
@@ -92,8 +92,8 @@ impl Shown {
 
 /// What the threads that serve connections share with the one that has the desk.
 #[derive(Drop)]
-pub struct Hall {
-    pub shown: Mutex<Shown>,
+pub struct SiteHall {
+    pub shown: Mutex<ShownState>,
     pub counter: Counter,
     /// When it was looked at last, in milliseconds of the clock.
     pub looked: AtomicU64,
@@ -107,14 +107,14 @@ pub struct Hall {
 #[derive(Drop)]
 pub struct AtCounter<'a, T> {
     rt: &'a T,
-    hall: &'a Hall,
+    hall: &'a SiteHall,
 }
 
-impl Hall {
+impl SiteHall {
     /// What is seen, before anybody looked.
-    pub fn new(seen: Seen) -> Self {
-        Hall {
-            shown: Mutex::new(Shown { seen, text: None }),
+    pub fn new(seen: StoreSeen) -> Self {
+        SiteHall {
+            shown: Mutex::new(ShownState { seen, text: None }),
             counter: Counter::new(),
             looked: AtomicU64::new(0),
             stop: AtomicBool::new(false),
@@ -124,7 +124,7 @@ impl Hall {
 }
 
 impl<'a, T> AtCounter<'a, T> {
-    pub fn new(rt: &'a T, hall: &'a Hall) -> Self {
+    pub fn new(rt: &'a T, hall: &'a SiteHall) -> Self {
         AtCounter { rt, hall }
     }
 }
@@ -137,7 +137,7 @@ fn not_done(alloc: Global, told: &str, status: u8) -> Result<Vec<u8>, AllocError
     let printed = &[];
     done_text(
         alloc,
-        &Done {
+        &LineDone {
             printed,
             told,
             status,
@@ -152,7 +152,7 @@ fn is_line(line: &str) -> bool
     line.len() <= MAX_LINE_BYTES && !line.as_bytes().contains(&b'\n')
 }
 
-impl<T: Wait + Clock> Desk for AtCounter<'_, T> {
+impl<T: Wait + Clock> PageDesk for AtCounter<'_, T> {
     ghost use Rattle.bayou_web_serve.specs.Lines.{IsLine, TellsNoLine};
     ghost use Rattle.bayou_web_serve.specs.Shows.{ShowsSome};
 
@@ -184,24 +184,24 @@ impl<T: Wait + Clock> Desk for AtCounter<'_, T> {
 
 /// What serves connections: each of its desks is a site, at the counter.
 #[derive(Drop)]
-pub struct Reception<'a, T> {
+pub struct SiteReception<'a, T> {
     rt: &'a T,
     keys: RandomState,
-    habits: Habits,
+    habits: SiteHabits,
 }
 
-impl<'a, T> Reception<'a, T> {
+impl<'a, T> SiteReception<'a, T> {
     /// Serves with maps under these keys.
     pub fn new(rt: &'a T, keys: RandomState) -> Self {
-        Reception {
+        SiteReception {
             rt,
             keys,
-            habits: Habits::usual(),
+            habits: SiteHabits::usual(),
         }
     }
 }
 
-impl<'a, C: Wait + Clock + Send + Sync> Host for Reception<'a, C> {
+impl<'a, C: Wait + Clock + Send + Sync> Host for SiteReception<'a, C> {
     type Desk = Site<AtCounter<'a, C>>;
 
     fn serve<T: Wait>(
@@ -217,7 +217,7 @@ impl<'a, C: Wait + Clock + Send + Sync> Host for Reception<'a, C> {
     }
 }
 
-impl<C: Wait + Clock + Send + Sync> Attendant for Reception<'_, C> {
+impl<C: Wait + Clock + Send + Sync> Attendant for SiteReception<'_, C> {
     fn pause<T: Wait>(&self, _rt: &T) {
         thread::sleep(self.rt, Duration::from_millis(PAUSE_MILLISECONDS));
     }

@@ -13,7 +13,7 @@ const MAX_NAME_BYTES: usize = 32;
 
 /// Where a page is served, and as whom a person claims.
 #[derive(Drop)]
-pub struct Page {
+pub struct SitePage {
     /// A loopback address: nobody else's machine reaches it.
     pub listen: SocketAddr,
     pub name: Option<String>,
@@ -69,7 +69,7 @@ fn is_name(name: &str) -> bool
     !name.is_empty() && name.len() <= MAX_NAME_BYTES && has_no_blank(name.as_bytes())
 }
 
-impl Page {
+impl SitePage {
     /// The page that these words ask for.
     pub fn new(alloc: Global, listen: &str, name: Option<&str>) -> Result<Self, PageFault>
         ensures listen { IfOk result (λ page. SaysLoopback listen.now page.listen) }
@@ -86,6 +86,6 @@ impl Page {
             Some(name) if is_name(name) => Some(name.to_string(alloc)?),
             Some(_) => return Err(PageFault::NoName),
         };
-        Ok(Page { listen, name })
+        Ok(SitePage { listen, name })
     }
 }

@@ -6,9 +6,9 @@ ghost use Rattle.http_server.specs.Connection.{history};
 ghost use Rattle.http_server.specs.History.{IsDone};
 ghost use Rattle.bayou_web.specs.Door.{MayAskNothing};
 
-use crate::timed::{Limit, Timed};
+use crate::timed::{Limit, LimitedStream};
 use bayou_base::limits::{MAX_LINE_BYTES, MAX_TURNS, READ_BYTES};
-use bayou_web::{Desk, Site};
+use bayou_web::{PageDesk, Site};
 use http_server::{Config, Connection, serve};
 use std::alloc::Global;
 use std::hash::RandomState;
@@ -37,19 +37,19 @@ const LINGER: Limit = Limit {
 
 /// How a site is served.
 #[derive(Clone, Copy, Debug, PartialEq, Eq)]
-pub struct Habits {
+pub struct SiteHabits {
     pub limit: Limit,
     pub config: Config,
 }
 
-impl Habits {
+impl SiteHabits {
     /// A line is short, and so is what a browser says of itself.
     pub fn usual() -> Self
         ensures limit { result.limit ≡ record { idle = IDLE_MILLISECONDS; whole = WHOLE_MILLISECONDS } }
         ensures body { result.config.max_body_len ≡ MAX_REQUEST_BYTES }
     {
         let config = Config::default();
-        Habits {
+        SiteHabits {
             limit: Limit {
                 idle: IDLE_MILLISECONDS,
                 whole: WHOLE_MILLISECONDS,
@@ -63,7 +63,7 @@ impl Habits {
 }
 
 /// Serves what comes over a connection until it is done, or a stream ends. The bytes and the calls are those of its history.
-pub fn serve_site<D: Desk + Drop, R: Read, W: Write>(
+pub fn serve_site<D: PageDesk + Drop, R: Read, W: Write>(
     connection: &mut Connection,
     site: &mut Site<D>,
     reader: &mut R,
@@ -83,26 +83,26 @@ pub fn serve_site<D: Desk + Drop, R: Read, W: Write>(
 }
 
 /// Serves what comes over these streams, whose waits end by `WouldBlock`. How long its request took the desk isn't counted: the response has its own time.
-pub fn serve_over<D: Desk + Drop, C: Clock, R: Read + Drop, W: Write + Drop>(
+pub fn serve_over<D: PageDesk + Drop, C: Clock, R: Read + Drop, W: Write + Drop>(
     alloc: Global,
     keys: RandomState,
     clock: &C,
-    habits: Habits,
+    habits: SiteHabits,
     site: &mut Site<D>,
     reader: R,
     writer: W,
 ) -> io::Result<()>
     ensures { site.new.door ≡ site.old.door }
 {
-    let mut reader = Timed::new(reader, clock, habits.limit);
-    let mut writer = Timed::new(writer, clock, habits.limit);
+    let mut reader = LimitedStream::new(reader, clock, habits.limit);
+    let mut writer = LimitedStream::new(writer, clock, habits.limit);
     let mut connection = Connection::new(alloc, keys, habits.config);
     serve_site(&mut connection, site, &mut reader, &mut writer)
 }
 
 // Drops what still comes for a short while: a socket that is closed with bytes unread would take back the response on its way.
 fn linger<C: Clock, R: Read + Drop>(clock: &C, reader: R) {
-    let mut reader = Timed::new(reader, clock, LINGER);
+    let mut reader = LimitedStream::new(reader, clock, LINGER);
     let mut piece = [0; READ_BYTES];
     for _ in 0..MAX_TURNS {
         match reader.read(&mut piece) {
@@ -120,11 +120,11 @@ fn is_timed(stream: &TcpStream) -> bool {
 }
 
 /// Serves one connection, and closes it. Nobody is served whose silence couldn't be ended.
-pub fn serve_stream<D: Desk + Drop, C: Clock>(
+pub fn serve_stream<D: PageDesk + Drop, C: Clock>(
     alloc: Global,
     keys: RandomState,
     clock: &C,
-    habits: Habits,
+    habits: SiteHabits,
     site: &mut Site<D>,
     stream: TcpStream,
 )

@@ -32,7 +32,7 @@ pub struct Limit {
 
 /// A stream whose waits end by `WouldBlock`, as those of a socket with a timeout do, and which is waited for no longer than the limit.
 #[derive(Drop)]
-pub struct Timed<'a, S, C> {
+pub struct LimitedStream<'a, S, C> {
     stream: S,
     clock: &'a C,
     limit: Limit,
@@ -42,12 +42,12 @@ pub struct Timed<'a, S, C> {
     moved: u64,
 }
 
-impl<'a, S, C: Clock> Timed<'a, S, C> {
+impl<'a, S, C: Clock> LimitedStream<'a, S, C> {
     /// The stream, which wasn't waited for yet.
     pub fn new(stream: S, clock: &'a C, limit: Limit) -> Self
         ensures { result.stream ≡ stream }
     {
-        Timed {
+        LimitedStream {
             stream,
             clock,
             limit,
@@ -73,7 +73,7 @@ impl<'a, S, C: Clock> Timed<'a, S, C> {
     }
 }
 
-impl<R: Read, C: Clock> Read for Timed<'_, R, C> {
+impl<R: Read, C: Clock> Read for LimitedStream<'_, R, C> {
     ghost remaining = { λ timed. R.remaining timed.stream };
 
     fn read(&mut self, buf: &mut [u8]) -> io::Result<usize> {
@@ -94,7 +94,7 @@ impl<R: Read, C: Clock> Read for Timed<'_, R, C> {
     }
 }
 
-impl<W: Write, C: Clock> Write for Timed<'_, W, C> {
+impl<W: Write, C: Clock> Write for LimitedStream<'_, W, C> {
     ghost contents = { λ timed. W.contents timed.stream };
 
     fn write(&mut self, buf: &[u8]) -> io::Result<usize> {

@@ -6,7 +6,7 @@ use Rattle.bayou_base.specs.declared.server.ServerId.{ServerId}
 use Rattle.bayou_base.specs.declared.wid.Wid.{Wid}
 use Rattle.bayou_wire.specs.declared.lookup.Became.{Became}
 use Rattle.bayou_wire.specs.declared.lookup.Became.TheVariants.{Updated, Merged, Nothing}
-use Rattle.bayou_web_state.specs.declared.seen.Notice.{Notice}
+use Rattle.bayou_web_state.specs.declared.seen.NewsItem.{NewsItem}
 use Rattle.bayou_web_state.specs.declared.seen.Own.{Own}
 use Rattle.bayou_web_state.specs.declared.seen.SeenSession.{SeenSession}
 use Rattle.bayou_web_state.specs.declared.seen.ServerSeen.{ServerSeen}
@@ -83,14 +83,14 @@ session_tokens servers (Some session) =
     ++ key (codes "writes") ∷ (vector_tokens servers session.writes ++ end_object ∷ [])))
 
 -- which notice it is, and its text
-abbrev pub numbered_tokens : Notice → List Token
+abbrev pub numbered_tokens : NewsItem → List Token
 numbered_tokens notice = key (codes "number") ∷ number (decimal notice.number) ∷ key (codes "text") ∷ string (string_bytes notice.text) ∷ []
 
 -- {"number": number, "text": text, "line": text or null}
-abbrev pub notice_tokens : Notice → List Token
+abbrev pub notice_tokens : NewsItem → List Token
 notice_tokens notice = begin_object ∷ (numbered_tokens notice ++ key (codes "line") ∷ text_token notice.line ∷ end_object ∷ [])
 
-abbrev pub notices_tokens : List Notice → List Token
+abbrev pub notices_tokens : List NewsItem → List Token
 notices_tokens notices = begin_array ∷ (flat_map notice_tokens notices ++ end_array ∷ [])
 
 -- which server told the rows, and what it held

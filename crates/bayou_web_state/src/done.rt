@@ -10,7 +10,7 @@ use std::str;
 
 /// What became of a line.
 #[derive(Drop)]
-pub struct Done<'a> {
+pub struct LineDone<'a> {
     /// What is printed of it.
     pub printed: &'a [u8],
     /// What is reported beside that.
@@ -79,7 +79,7 @@ fn put_status(out: &mut Writer, status: u8) -> Result<(), AllocError>
 }
 
 // What became of the line.
-fn put_done(out: &mut Writer, alloc: Global, done: &Done<'_>) -> Result<(), AllocError>
+fn put_done(out: &mut Writer, alloc: Global, done: &LineDone<'_>) -> Result<(), AllocError>
     ensures put { OnOk result (out.new.tokens ≡ out.old.tokens ++ done_tokens done.now.printed.now done.now.told.now done.now.status) }
     ensures before { out.new.before ≡ out.old.before }
 {
@@ -91,7 +91,7 @@ fn put_done(out: &mut Writer, alloc: Global, done: &Done<'_>) -> Result<(), Allo
 }
 
 /// `{"lines":["0 wrote 0:1 clock 1 deps 0,0"],"told":[],"status":0}`. Bytes that are no text have no lines.
-pub fn done_text(alloc: Global, done: &Done<'_>) -> Result<Vec<u8>, AllocError>
+pub fn done_text(alloc: Global, done: &LineDone<'_>) -> Result<Vec<u8>, AllocError>
     ensures { IfOk result (λ text. IsDone done.now.printed.now done.now.told.now done.now.status text.items) }
 {
     let mut out = Writer::new(Vec::new(alloc));

@@ -5,7 +5,7 @@ ghost use Rattle.std.specs.Net.Text.{socket_text};
 ghost use Rattle.bayou_base.specs.declared.limits.TheConstants.{SERVERS as NUMBER};
 ghost use Rattle.bayou_web_state.specs.Parts.{all_own_tokens, asked_word, asks_tokens, held_tokens, notice_tokens, notices_tokens, number_token, numbered_tokens, own_tokens, place_tokens, server_tokens, servers_tokens, session_tokens, text_token, told_tokens, told_word, vector_tokens, view_tokens, wid_text};
 
-use crate::seen::{Notice, Own, SeenSession, ServerSeen};
+use crate::seen::{NewsItem, Own, SeenSession, ServerSeen};
 use bayou_base::{Asks, ServerId, Vector, Wid};
 use bayou_wire::Became;
 use json::Writer;
@@ -270,7 +270,7 @@ pub(crate) fn put_session(
 }
 
 // Which notice it is, and its text.
-fn put_numbered(out: &mut Writer, notice: &Notice) -> Result<(), AllocError>
+fn put_numbered(out: &mut Writer, notice: &NewsItem) -> Result<(), AllocError>
     ensures put { OnOk result (out.new.tokens ≡ out.old.tokens ++ numbered_tokens notice.now) }
     ensures before { out.new.before ≡ out.old.before }
 {
@@ -281,7 +281,7 @@ fn put_numbered(out: &mut Writer, notice: &Notice) -> Result<(), AllocError>
 }
 
 // A notice: `{"number":1,"text":"0 changed 0:5 none","line":"claim mon/9/blue kim"}`.
-fn put_notice(out: &mut Writer, notice: &Notice) -> Result<(), AllocError>
+fn put_notice(out: &mut Writer, notice: &NewsItem) -> Result<(), AllocError>
     ensures put { OnOk result (out.new.tokens ≡ out.old.tokens ++ notice_tokens notice.now) }
     ensures before { out.new.before ≡ out.old.before }
 {
@@ -292,7 +292,7 @@ fn put_notice(out: &mut Writer, notice: &Notice) -> Result<(), AllocError>
 }
 
 /// Each notice.
-pub(crate) fn put_notices(out: &mut Writer, notices: &[Notice]) -> Result<(), AllocError>
+pub(crate) fn put_notices(out: &mut Writer, notices: &[NewsItem]) -> Result<(), AllocError>
     ensures put { OnOk result (out.new.tokens ≡ out.old.tokens ++ notices_tokens notices.now) }
     ensures before { out.new.before ≡ out.old.before }
 {

@@ -69,7 +69,7 @@ pub struct Own {
 
 /// Something that a person learns once.
 #[derive(Debug, Drop)]
-pub struct Notice {
+pub struct NewsItem {
     /// Which it is, from 1 on.
     pub number: u64,
     pub text: String,
@@ -87,7 +87,7 @@ pub struct SeenSession {
 
 /// What is seen of a store, as servers told it last.
 #[derive(Drop)]
-pub struct Seen {
+pub struct StoreSeen {
     /// How many counts of a vector are given.
     servers_number: u8,
     /// As whom the person claims.
@@ -100,13 +100,13 @@ pub struct Seen {
     servers: Vec<ServerSeen>,
     own: Vec<Own>,
     session: Option<SeenSession>,
-    notices: Vec<Notice>,
+    notices: Vec<NewsItem>,
     /// How many notices there were.
     noticed: u64,
     ghost number: { servers_number ≤ NUMBER },
 }
 
-impl Seen {
+impl StoreSeen {
     ghost use Rattle.bayou_web_state.specs.Seen.{Shows, head_tokens, person_tokens, seen_tokens, store_tokens, table_tokens};
 
     /// Nothing was seen yet.
@@ -116,7 +116,7 @@ impl Seen {
         ensures rows { (result.rows.items ≡ []) × (result.told ≡ None) × (result.is_current ≡ false) }
         ensures rest { (result.servers.items ≡ []) × (result.own.items ≡ []) × (result.session ≡ None) × (result.notices.items ≡ []) × (result.noticed ≡ 0) }
     {
-        Seen {
+        StoreSeen {
             servers_number,
             name,
             rows: Vec::new(alloc),
@@ -259,7 +259,7 @@ impl Seen {
         self.make_room();
         self.noticed = self.noticed.saturating_add(1);
         let number = self.noticed;
-        self.notices.push(Notice { number, text, line })?;
+        self.notices.push(NewsItem { number, text, line })?;
         Ok(())
     }
 

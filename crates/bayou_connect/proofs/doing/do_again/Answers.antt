@@ -3,7 +3,7 @@ use Rattle.bayou_base.specs.declared.session.SessionId.{SessionId}
 use Rattle.bayou_connect.specs.Claiming.{TellsOutcome}
 use Rattle.bayou_connect.specs.Commands.{WritesAgain}
 use Rattle.bayou_connect.specs.Sessions.{own_session}
-use Rattle.bayou_connect.specs.declared.desk.Made.{Made}
+use Rattle.bayou_connect.specs.declared.desk.MadeWrite.{MadeWrite}
 use Rattle.bayou_connect.proofs.Claimed.{own_is}
 use Rattle.bayou_streams.specs.Account.{account}
 use Rattle.bayou_connect.proofs.doing.do_again.Goals as goal
@@ -18,7 +18,7 @@ returns-in-None g c =
       made = None;
       wrote = wrote;
       line = line;
-      again = subst (λ (made : Option Made). WritesAgain own_session old wrote before line made) c.in-None.is
+      again = subst (λ (made : Option MadeWrite). WritesAgain own_session old wrote before line made) c.in-None.is
           (subst (λ (who : SessionId). WritesAgain who old wrote before line c.in_ok-made.made) (own_is _) c.in_ok-made.ensures);
       rest = (refl, refl);
     }
@@ -35,7 +35,7 @@ returns-in_ok-tell_outcome-in-Some g c =
       made = Some c.in-Some.made;
       wrote = wrote;
       line = line;
-      again = subst (λ (made : Option Made). WritesAgain own_session old wrote before line made) c.in-Some.is
+      again = subst (λ (made : Option MadeWrite). WritesAgain own_session old wrote before line made) c.in-Some.is
           (subst (λ (who : SessionId). WritesAgain who old wrote before line c.in_ok-made.made) (own_is _) c.in_ok-made.ensures);
       rest = (
         c.in_ok-tell_outcome-in-Some.field-0,

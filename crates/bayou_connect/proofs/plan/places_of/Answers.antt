@@ -1,5 +1,5 @@
 use Rattle.std.proofs.Common.{arith, ◌≡◌, Any, inr, rules, subst}
-use Rattle.bayou_connect.specs.declared.plan.Place.{Place}
+use Rattle.bayou_connect.specs.declared.plan.ServerPlace.{ServerPlace}
 use Rattle.bayou_connect.specs.Plans.{SaysPlace}
 use Rattle.bayou_lang.specs.Laws.Equality.{server-ext}
 use Rattle.bayou_connect.proofs.Naming.{named_twice, no_place}
@@ -19,5 +19,5 @@ returns-in_default-clause-refused c = inr (no_place c.args.words.now c.loop-word
 
 pub returns-then-has_place-clause-refused : goal.returns-then-has_place-clause-refused
 returns-then-has_place-clause-refused c =
-    let (at, first, there, is, same) = subst (Any (λ (place : Place). place.id.index ≡ c.in-Some.place.id.index)) c.deref.ensures.value (c.has_place.ensures.some c.if-has_place.true) in
+    let (at, first, there, is, same) = subst (Any (λ (place : ServerPlace). place.id.index ≡ c.in-Some.place.id.index)) c.deref.ensures.value (c.has_place.ensures.some c.if-has_place.true) in
     named_twice c.args.words.now c.loop-word.places.items at c.loop-word.word-index _ first c.in-Some.place (omega arith) c.loop-word.invariant.number c.loop-word.invariant.said there is c.in-Some.ensures (server-ext first.id c.in-Some.place.id same)
