@@ -19,7 +19,7 @@ use Rattle.bayou_connect.specs.declared.store.Store.{Store}
 use Rattle.bayou_connect.specs.declared.told.ServerTold.{ServerTold}
 use Rattle.bayou_print.specs.Printed.{last_text}
 use Rattle.bayou_streams.specs.Account.{Account, TakesBytes}
-use Rattle.bayou_text.specs.declared.command.Attempt.{Requested as Said}
+use Rattle.bayou_text.specs.declared.command.Attempt.{Attempt as Said}
 use Rattle.bayou_text.specs.declared.command.Attempt.TheVariants as said
 use Rattle.bayou_text.specs.declared.command.Command.{Command}
 use Rattle.bayou_text.specs.declared.command.Command.TheVariants as commands
